@@ -1,0 +1,7 @@
+pub mod Levels
+pub mod Leveling
+pub mod Firsts
+pub mod Facts
+pub mod Refusing
+pub mod Lawful
+pub mod Agreeing

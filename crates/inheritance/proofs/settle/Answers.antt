@@ -1,0 +1,4 @@
+use Rattle.inheritance.proofs.settle.Needs as need
+
+pub returns : need.returns
+returns g c = ?

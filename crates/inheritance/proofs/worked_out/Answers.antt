@@ -1,0 +1,1 @@
+use Rattle.inheritance.proofs.worked_out.Needs as need
