@@ -1,3 +1,3 @@
 pub mod Rows
-pub mod Raising
+pub mod Mosts
 pub mod Settling

@@ -4,7 +4,9 @@ use mathlib.Core.List.{List, [], _∷_}
 use Prim.Native.Nat.{ℕ, zero, suc, _<_, _≤_}
 use native.Mathlib.Nat.{le-of-suc-le-suc}
 use native.Mathlib.Omega.{arith}
+use lib.Dec.{T}
 use lib.ListN.{length, getD, set}
+use Rattle.std.specs.Options.{isSome}
 use Rattle.std.specs.declared.option.Option.{Option}
 use Rattle.std.specs.declared.option.Option.the-variants.{Some, None}
 use Rattle.book.specs.declared.row.Row.{Row}
@@ -15,6 +17,11 @@ module _ {U : Type 0} where
   row-there [] i d l = absurd (omega arith)
   row-there (r ∷ rows) zero d l = refl
   row-there (r ∷ rows) (suc i) d l = row-there rows i d (omega arith)
+
+  pub row-some : (rows : List (Row U)) (i : ℕ) → i < length rows → T (isSome (row-at rows i))
+  row-some [] i l = absurd (omega arith)
+  row-some (r ∷ rows) zero l = tt
+  row-some (r ∷ rows) (suc i) l = row-some rows i (omega arith)
 
   pub row-past : (rows : List (Row U)) (i : ℕ) → length rows ≤ i → row-at rows i ≡ None
   row-past [] i l = refl

@@ -2,8 +2,7 @@
 use mathlib.Core.Path.{_≡_}
 use mathlib.Core.Bool.{Bool, not, _&&_}
 use mathlib.Core.List.{List}
-use Prim.Native.Nat.{ℕ, _<_, _≤_}
-use lib.ListN.{getD}
+use Prim.Native.Nat.{ℕ}
 use Rattle.std.specs.Options.{mapped}
 use Rattle.std.specs.declared.option.Option.{Option}
 use Rattle.std.specs.declared.option.Option.the-variants.{Some, None}
@@ -34,11 +33,6 @@ module _ {U : Type 0} where
   releveled None u r = r
   releveled (Some w) None r = r
   releveled (Some w) (Some u) r = record { base = r .base; level = u }
-
--- of the tasks below n, each that is present has its level in its row; the other rows are as they were
-pub record Written {U : Type 0} (t : WaitTable) (levels : List (Option U)) (n : ℕ) (rows rows′ : List (Row U)) : Type 0 where
-  pub done : (j : ℕ) → j < n → row-at rows′ j ≡ mapped (releveled (waits-of t .tasks j) (getD levels j None)) (row-at rows j)
-  pub rest : (j : ℕ) → n ≤ j → row-at rows′ j ≡ row-at rows j
 
 -- the levels of all present tasks stand in their rows, and r is the set of those of `standing` whose level was another
 pub record Settled {U : Type 0} (urgent : U → U → Bool) (t : WaitTable) (standing : ℕ) (rows rows′ : List (Row U)) (r : ℕ) : Type 0 where

@@ -1,16 +1,15 @@
 //! Inheritance of urgency: the levels of all tasks, worked out over the task rows, and the first of a set by its level.
 ghost use mathlib.Core.Path.{_≡_};
-ghost use mathlib.Core.Bool.{Bool, cond, not, _&&_};
-ghost use Prim.Native.Nat.{ℕ, _<_, _≤_};
-ghost use lib.ListN.{length, getD};
+ghost use mathlib.Core.Bool.{not, _&&_};
+ghost use Prim.Native.Nat.{ℕ, _≤_};
+ghost use lib.ListN.{length};
 ghost use Rattle.std.specs.Options.{mapped};
-ghost use Rattle.std.specs.declared.option.Option.the-variants.{None};
-ghost use Rattle.urgency.specs.Order.{upper, same};
-ghost use Rattle.tasksets.specs.Sets.{has, those};
+ghost use Rattle.urgency.specs.Order.{same};
+ghost use Rattle.tasksets.specs.Sets.{has};
 ghost use Rattle.waits.specs.Table.{waits-of};
-ghost use Rattle.book.specs.Book.{level, better, first};
-ghost use Rattle.book.specs.Kernel.{row-at, if-present};
-ghost use Rattle.inheritance.specs.Rows.{held, row-levels, releveled, Written, Settled};
+ghost use Rattle.book.specs.Book.{most-below, better, first};
+ghost use Rattle.book.specs.Kernel.{row-at};
+ghost use Rattle.inheritance.specs.Rows.{held, row-levels, releveled, Settled};
 use book::Row;
 use tasksets::TaskSet;
 use tasksets::contains;
@@ -54,67 +53,36 @@ pub fn base_in<U: Urgency>(table: &WaitTable, rows: &[Row<U>], i: u32) -> Option
     }
 }
 
-/// Raises the levels of the tasks of a set to a base, where that is more urgent.
-fn raise<U: Urgency>(levels: &mut [Option<U>; 64], along: TaskSet, base: Option<U>)
-    ensures { λ _. ⌜ ((j : ℕ) → j < 64 → getD (now (levels .exit)) j None ≡ cond (has along j) (upper urgent (getD (now (levels .entry)) j None) base) (getD (now (levels .entry)) j None)) ⌝ }
+/// The most urgent base among the tasks of a set.
+fn most<U: Urgency>(table: &WaitTable, rows: &[Row<U>], set: TaskSet) -> Option<U>
+    ensures { λ r. ⌜ r ≡ most-below urgent (held (now (table .entry)) (now (rows .entry)) .base) 64 set ⌝ }
 {
-    let mut left = along;
-    while let Some(j) = smallest(left) {
-        levels[j as usize] = most_urgent(levels[j as usize], base);
-        left = without(left, j);
+    let mut top: Option<U> = None;
+    let mut left = set;
+    while let Some(i) = smallest(left) {
+        top = most_urgent(top, base_in(table, rows, i));
+        left = without(left, i);
     }
+    top
 }
 
-/// The level of each task: each base raises the tasks along its chains. A task that waits for nobody costs one step.
-pub fn levels<U: Urgency>(table: &WaitTable, rows: &[Row<U>]) -> [Option<U>; 64]
-    ensures { λ r. ⌜ ((j : ℕ) → j < 64 → getD r j None ≡ level urgent (held (now (table .entry)) (now (rows .entry))) j) ⌝ }
+/// Whether task t is of the set and its row holds another level than this one.
+fn differs<U: Urgency>(rows: &[Row<U>], set: TaskSet, t: u32, level: Option<U>) -> bool
+    ensures { λ r. ⌜ r ≡ (has set t && not (same urgent (row-levels (now (rows .entry)) t) level)) ⌝ }
 {
-    let mut levels: [Option<U>; 64] = [None; 64];
-    for i in 0..64u32 {
-        let base = base_in(table, rows, i);
-        let along = table.reached(i);
-        raise(&mut levels, along, base);
-    }
-    levels
+    contains(set, t) && !same_urgency(level_in(rows, t), level)
 }
 
-/// The level that was worked out for task i.
-fn worked_out<U: Urgency>(levels: &[Option<U>; 64], i: u32) -> Option<U>
-    ensures { λ r. ⌜ r ≡ getD (now (levels .entry)) i None ⌝ }
+/// Writes a level into row t, if task t is present.
+fn put_level<U: Urgency>(table: &WaitTable, rows: &mut [Row<U>], t: u32, level: Option<U>)
+    ensures here { λ _. ⌜ row-at (now (rows .exit)) t ≡ mapped (releveled (waits-of (now (table .entry)) .tasks t) level) (row-at (now (rows .entry)) t) ⌝ }
+    ensures others { λ _. ⌜ ((j : ℕ) → (j ≡ t → ⊥) → row-at (now (rows .exit)) j ≡ row-at (now (rows .entry)) j) ⌝ }
 {
-    if i < 64 { levels[i as usize] } else { None }
-}
-
-/// Whether task i is of the set and its row holds another level than the one worked out.
-fn differs<U: Urgency>(rows: &[Row<U>], levels: &[Option<U>; 64], set: TaskSet, i: u32) -> bool
-    ensures { λ r. ⌜ r ≡ (has set i && not (same urgent (row-levels (now (rows .entry)) i) (getD (now (levels .entry)) i None))) ⌝ }
-{
-    contains(set, i) && !same_urgency(level_in(rows, i), worked_out(levels, i))
-}
-
-/// The tasks of a set whose rows hold another level than the one worked out.
-fn differing<U: Urgency>(rows: &[Row<U>], levels: &[Option<U>; 64], set: TaskSet) -> TaskSet
-    ensures { λ r. ⌜ r ≡ those (λ i. has set i && not (same urgent (row-levels (now (rows .entry)) i) (getD (now (levels .entry)) i None))) ⌝ }
-{
-    let mut found: TaskSet = 0;
-    for i in 0..64u32 {
-        if differs(rows, levels, set, i) {
-            found = with(found, i);
-        }
-    }
-    found
-}
-
-/// Writes a level into row i, if task i is present.
-fn put_level<U: Urgency>(table: &WaitTable, rows: &mut [Row<U>], i: u32, level: Option<U>)
-    ensures here { λ _. ⌜ row-at (now (rows .exit)) i ≡ mapped (releveled (waits-of (now (table .entry)) .tasks i) level) (row-at (now (rows .entry)) i) ⌝ }
-    ensures others { λ _. ⌜ ((j : ℕ) → (j ≡ i → ⊥) → row-at (now (rows .exit)) j ≡ row-at (now (rows .entry)) j) ⌝ }
-{
-    let at = i as usize;
+    let at = t as usize;
     if at >= rows.len() {
         return;
     }
-    let Some(_) = table.task(i) else {
+    let Some(_) = table.task(t) else {
         return;
     };
     let Some(level) = level else {
@@ -123,23 +91,20 @@ fn put_level<U: Urgency>(table: &WaitTable, rows: &mut [Row<U>], i: u32, level: 
     rows[at].level = level;
 }
 
-/// Writes the levels of all present tasks into their rows.
-fn put_levels<U: Urgency>(table: &WaitTable, rows: &mut [Row<U>], levels: &[Option<U>; 64])
-    ensures { λ _. ⌜ Written (now (table .entry)) (now (levels .entry)) 64 (now (rows .entry)) (now (rows .exit)) ⌝ }
-{
-    for i in 0..64u32 {
-        put_level(table, rows, i, worked_out(levels, i));
-    }
-}
-
-/// Works out the levels of all tasks and writes them into the rows; the answer is the tasks of `standing` whose level was another.
+/// Works out the levels of all tasks and writes them into the rows of those that are present; the answer is the tasks of `standing` whose level was another.
 pub fn settle<U: Urgency>(table: &WaitTable, standing: TaskSet, rows: &mut [Row<U>]) -> TaskSet
     requires { ⌜ 64 ≤ length (now rows) ⌝ }
     ensures { λ r. ⌜ Settled urgent (now (table .entry)) standing (now (rows .entry)) (now (rows .exit)) r ⌝ }
 {
-    let now = levels(table, rows);
-    let changed = differing(rows, &now, standing);
-    put_levels(table, rows, &now);
+    let leading = table.leading();
+    let mut changed: TaskSet = 0;
+    for t in 0..64u32 {
+        let level = most(table, rows, leading[t as usize]);
+        if differs(rows, standing, t, level) {
+            changed = with(changed, t);
+        }
+        put_level(table, rows, t, level);
+    }
     changed
 }
 

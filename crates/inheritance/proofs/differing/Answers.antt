@@ -1,7 +1,0 @@
-use Rattle.inheritance.proofs.differing.Needs as need
-
-pub loop-i-holds : need.loop-i-holds
-loop-i-holds g c = ?
-
-pub loop-i-again : need.loop-i-again
-loop-i-again g c = ?

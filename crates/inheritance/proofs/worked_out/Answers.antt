@@ -1,1 +1,0 @@
-use Rattle.inheritance.proofs.worked_out.Needs as need
