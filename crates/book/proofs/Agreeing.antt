@@ -44,8 +44,7 @@ module _ {U : Type 0} (urgent : U → U → Bool) where
     pub first-doing : (d : Wait) → first urgent lev (doing (b .waits) d) ≡ first urgent lev′ (doing (b .waits) d)
     first-doing d = first-same urgent lev lev′ (doing (b .waits) d) (λ i h. same-at i (does-is d (b .waits .tasks i) (from-doing (b .waits) d i h) .0))
 
-    pub after-same : (c : Call U) → after lev b c ≡ after lev′ b c
-    unfolding after
+    pub after-same : (c : Call U) → after urgent lev b c ≡ after urgent lev′ b c
     after-same (Task t v) = refl
     after-same (Untask t) = refl
     after-same (Base t v) = refl
@@ -66,7 +65,7 @@ module _ {U : Type 0} (urgent : U → U → Bool) where
     unfolding step-by
     step-same n c =
         ap (λ x. (kept-or urgent b x (earliest (all-refusals urgent n b c x)), answer urgent lev b c x (earliest (all-refusals urgent n b c x)))) (after-same c)
-        ∙ ap (λ a. (kept-or urgent b (after lev′ b c) (earliest (all-refusals urgent n b c (after lev′ b c))), a)) (answer-same c (after lev′ b c) (earliest (all-refusals urgent n b c (after lev′ b c))))
+        ∙ ap (λ a. (kept-or urgent b (after urgent lev′ b c) (earliest (all-refusals urgent n b c (after urgent lev′ b c))), a)) (answer-same c (after urgent lev′ b c) (earliest (all-refusals urgent n b c (after urgent lev′ b c))))
 
   -- where the rows hold the levels, they tell the running task
   pub running-same : (k : State U) → Right urgent k → running-of urgent k ≡ running urgent (book-of k)

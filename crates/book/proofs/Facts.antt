@@ -63,11 +63,11 @@ not-any : (p : ℕ → Bool) → (T (not (none (those p))) → ⊥) → (k : ℕ
 not-any p h k l t = h (any-all (those p) k (those-all p k l t))
 
 module _ (w : Waits) (f : Sound w) (t : ℕ) (unused : T (in-use w t) → ⊥) where
-  holds-none : (s : ℕ) → Holds w t s → ⊥
+  pub holds-none : (s : ℕ) → Holds w t s → ⊥
   holds-none s h =
       not-any (λ s. held-by t (w .semaphores s)) (λ x. unused (or-left _ _ x)) s (f .semaphores< s (held-there (w .semaphores s) (held-some (w .semaphores s) t h))) h
 
-  helps-none : (c : ℕ) → Helps w t c → ⊥
+  pub helps-none : (c : ℕ) → Helps w t c → ⊥
   helps-none c h =
       not-any (λ c. helped-by t (w .conditions c)) (λ x. unused (or-right (not (none (those (λ s. held-by t (w .semaphores s))))) _ x)) c
       (f .conditions< c (helped-there (w .conditions c) t h)) h
@@ -81,8 +81,8 @@ module _ {U : Type 0} (urgent : U → U → Bool) (n : ℕ) where
   whole : (c : Call U) (x : Waits) → Facts x → Leaves c x
   whole c x f = (f .sound, λ _. f .free)
 
-  pub leaves : (lev : ℕ → Option U) (b : Book U) → Facts (b .waits) → (c : Call U) → Clear (refusals (b .waits) n c) → Leaves c (after lev b c .waits)
-  unfolding refusals after
+  pub leaves : (lev : ℕ → Option U) (b : Book U) → Facts (b .waits) → (c : Call U) → Clear (refusals (b .waits) n c) → Leaves c (after urgent lev b c .waits)
+  unfolding refusals
   leaves lev b f (Task t v) (_, (small, (_, (new, _)))) =
       whole (Task t v) _ (task-made (b .waits) t f (below-64 (task t) [] small) (absent (b .waits .tasks t) (not-head (there (b .waits)) (task t) [] new)))
   leaves lev b f (Untask t) (_, (_, (_, (_, (_, (unused, _)))))) =
@@ -95,7 +95,7 @@ module _ {U : Type 0} (urgent : U → U → Bool) (n : ℕ) where
   facts-step b c f = go (earliest (all-refusals urgent n b c x)) refl
     where
       x : Book U
-      x = after (level urgent b) b c
+      x = after urgent (level urgent b) b c
 
       go : (r : Option Refusal) → earliest (all-refusals urgent n b c x) ≡ r → Facts (kept-or urgent b x r .waits)
       go (Some k) e = f

@@ -104,11 +104,11 @@ module _ {U : Type 0} (urgent : U → U → Bool) (order : Order (λ u v. T (urg
   accepted : (n : ℕ) (b : Book U) (c : Call U) (w : Bool) (a d : ℕ) → step urgent n b c .1 ≡ Ok (w, a, d)
       → (a ≡ woken (b .waits) (step urgent n b c .0 .waits)) × (d ≡ changed urgent (level urgent b) (b .waits) (step urgent n b c .0))
   unfolding step-by
-  accepted n b c w a d = go (earliest (all-refusals urgent n b c (after (level urgent b) b c)))
+  accepted n b c w a d = go (earliest (all-refusals urgent n b c (after urgent (level urgent b) b c)))
     where
-      go : (r : Option Refusal) → answer urgent (level urgent b) b c (after (level urgent b) b c) r ≡ Ok (w, a, d)
-          → (a ≡ woken (b .waits) (kept-or urgent b (after (level urgent b) b c) r .waits))
-          × (d ≡ changed urgent (level urgent b) (b .waits) (kept-or urgent b (after (level urgent b) b c) r))
+      go : (r : Option Refusal) → answer urgent (level urgent b) b c (after urgent (level urgent b) b c) r ≡ Ok (w, a, d)
+          → (a ≡ woken (b .waits) (kept-or urgent b (after urgent (level urgent b) b c) r .waits))
+          × (d ≡ changed urgent (level urgent b) (b .waits) (kept-or urgent b (after urgent (level urgent b) b c) r))
       go (Some k) e = let z : _≡_ {A = ℕ} 0 1 = cc in absurd (omega arith)
       go None e = let p = told e in (ap (λ p. p .1) p, ap (λ p. p .2) p)
 

@@ -135,7 +135,7 @@ module _ (y : Bool) where
 module _ {U : Type 0} (urgent : U → U → Bool) (n : ℕ) (b : Book U) (c : Call U) where
   -- the book after the whole step
   abbrev whole : Book U
-  whole = after (level urgent b) b c
+  whole = after urgent (level urgent b) b c
 
   abbrev listed : List (Refusal × Bool)
   listed = all-refusals urgent n b c whole
@@ -165,7 +165,7 @@ module _ {U : Type 0} (urgent : U → U → Bool) (n : ℕ) (b : Book U) (c : Ca
     left : NoneBefore WouldRing → Leaves urgent n c (whole .waits)
     left q = leaves urgent n (level urgent b) b f c (others-clear (ring (whole .waits)) 0 (refusals (b .waits) n c) (rising (ring (whole .waits)) (b .waits) n c) q)
 
-    pub ring-refused : (step urgent n b c .1 ≡ Err WouldRing) ↔ (NoneBefore WouldRing × ((i : ℕ) × Ring (Awaits (after (level urgent b) b c .waits)) i))
+    pub ring-refused : (step urgent n b c .1 ≡ Err WouldRing) ↔ (NoneBefore WouldRing × ((i : ℕ) × Ring (Awaits (after urgent (level urgent b) b c .waits)) i))
     ring-refused = (
       λ e.
           let (m, q) = refused WouldRing .0 e in

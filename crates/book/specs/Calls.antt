@@ -13,7 +13,7 @@ use Rattle.book.specs.declared.call.Call.{Call}
 use Rattle.book.specs.declared.call.Call.the-variants.{Task, Untask, Base}
 use Rattle.book.specs.declared.refusal.Refusal.{Refusal}
 use Rattle.book.specs.declared.refusal.Refusal.the-variants.{FewRows, Over63, NotDeclared, AlreadyThere, CallerWaits, InUse}
-use Rattle.book.specs.Book.{Book}
+use Rattle.book.specs.Book.{Book, first}
 
 -- what a call names
 pub data Thing : Type 0 where
@@ -65,8 +65,18 @@ module _ {U : Type 0} where
       (FewRows, ltb n 64) ∷ (Over63, some (λ x. ltb 63 (number x)) (makes c ++ needs c)) ∷ (NotDeclared, some (λ x. not (there w x)) (needs c))
       ∷ (AlreadyThere, some (there w) (makes c)) ∷ own-refusals w c
 
--- the book after a call's step, by the levels before it
-unfoldable pub after : {U : Type 0} → (ℕ → Option U) → Book U → Call U → Book U
-after lev b (Task t v) = record { waits = with-task (b .waits) t (Some Ready); base = put (b .base) t (Some v) }
-after lev b (Untask t) = record { waits = with-task (b .waits) t None; base = put (b .base) t None }
-after lev b (Base t v) = record { waits = b .waits; base = put (b .base) t (Some v) }
+  -- who waits and who holds after a call's step, where pick tells the first of a set
+  abbrev pub waits-after : (ℕ → Option ℕ) → Waits → Call U → Waits
+  waits-after pick w (Task t v) = with-task w t (Some Ready)
+  waits-after pick w (Untask t) = with-task w t None
+  waits-after pick w (Base t v) = w
+
+  -- the bases after a call's step
+  abbrev pub base-after : (ℕ → Option U) → Call U → ℕ → Option U
+  base-after base (Task t v) = put base t (Some v)
+  base-after base (Untask t) = put base t None
+  base-after base (Base t v) = put base t (Some v)
+
+-- the book after a call's step; a first is picked by lev, the levels before the call
+abbrev pub after : {U : Type 0} → (U → U → Bool) → (ℕ → Option U) → Book U → Call U → Book U
+after urgent lev b c = record { waits = waits-after (first urgent lev) (b .waits) c; base = base-after (b .base) c }

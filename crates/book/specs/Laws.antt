@@ -49,7 +49,7 @@ module _ {U : Type 0} (urgent : U → U → Bool) where
   -- ---- at every call
   -- refusal k's condition holds, whether or not an earlier one does
   abbrev pub Applies : ℕ → Book U → Call U → Refusal → Type 0
-  Applies n b c k = T (meets k (all-refusals urgent n b c (after (level urgent b) b c)))
+  Applies n b c k = T (meets k (all-refusals urgent n b c (after urgent (level urgent b) b c)))
 
   -- the base of i, or the tasks that it awaits, differ
   abbrev pub Altered : Book U → Book U → ℕ → Type 0
@@ -65,7 +65,7 @@ module _ {U : Type 0} (urgent : U → U → Bool) where
     -- a refusal is given just where it applies and none with a smaller number does
     pub refused : (k : Refusal) → (step urgent n b c .1 ≡ Err k) ↔ (Applies n b c k × ((j : Refusal) → number-of j < number-of k → Applies n b c j → ⊥))
     -- the ring's is given just where no other applies and the whole step would leave a ring
-    pub ring : (step urgent n b c .1 ≡ Err WouldRing) ↔ (((j : Refusal) → number-of j < number-of WouldRing → Applies n b c j → ⊥) × ((i : ℕ) × Ring (Awaits (after (level urgent b) b c .waits)) i))
+    pub ring : (step urgent n b c .1 ≡ Err WouldRing) ↔ (((j : Refusal) → number-of j < number-of WouldRing → Applies n b c j → ⊥) × ((i : ℕ) × Ring (Awaits (after urgent (level urgent b) b c .waits)) i))
     -- and no other call is refused so
     pub no-ring : may-ring c ≡ false → step urgent n b c .1 ≡ Err WouldRing → ⊥
     -- a standing task keeps its level unless a chain leads to it, before or after, from a task that the call altered

@@ -58,7 +58,7 @@ module _ {U : Type 0} (urgent : U → U → Bool) where
   -- with n rows, and lev the levels before the call: the book after it, and the reply
   unfoldable pub step-by : (ℕ → Option U) → ℕ → Book U → Call U → Book U × Reply
   step-by lev n b c =
-      let x : Book U = after lev b c in
+      let x : Book U = after urgent lev b c in
       let r : Option Refusal = earliest (all-refusals n b c x) in
       (kept-or b x r, answer lev b c x r)
 
