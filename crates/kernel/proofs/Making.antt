@@ -85,22 +85,26 @@ module _ {U : Type 0} (urgent : U → U → Bool) (k : State U) (c : Call U) whe
   pub made-refused : (j : Refusal) → 64 ≤ length (k .rows) → refusal (first urgent (levels-of k)) (k .waits) (asked c) ≡ Some j → Made urgent k c (Err j) k
   made-refused j l e = refused j (judged-is l ∙ e)
 
+  -- the waits after the step
+  abbrev next : Waits
+  next = waits-after (first urgent (levels-of k)) (k .waits) c
+
   -- accepted: rows is what the rows hold once a base is written, k′ the state at the end
-  module _ (rows : List (Row U)) (x : Waits) (waiting : Bool) (r : Bool × ℕ × ℕ) (k′ : State U) (l : 64 ≤ length (k .rows))
-      (fine : refusal (first urgent (levels-of k)) (k .waits) (asked c) ≡ None) (step : x ≡ waits-after (first urgent (levels-of k)) (k .waits) c)
-      (bases : (i : ℕ) → book-of (record { waits = x; rows = rows }) .base i ≡ base-after (book-of k .base) c i) (still : waiting ≡ left-waiting x c)
-      (levels : (i : ℕ) → Present (k .waits) i → Present x i → levels-of (record { waits = x; rows = rows }) i ≡ levels-of k i)
-      (size : length rows ≡ length (k .rows)) (rest : (i : ℕ) → (Present x i → ⊥) → row-at rows i ≡ row-at (k .rows) i)
-      (a : Accepted urgent (record { waits = k .waits; rows = rows }) x waiting r k′) where
+  module _ (rows : List (Row U)) (waiting : Bool) (r : Bool × ℕ × ℕ) (k′ : State U) (l : 64 ≤ length (k .rows))
+      (fine : refusal (first urgent (levels-of k)) (k .waits) (asked c) ≡ None)
+      (bases : (i : ℕ) → book-of (record { waits = next; rows = rows }) .base i ≡ base-after (book-of k .base) c i) (still : waiting ≡ left-waiting next c)
+      (levels : (i : ℕ) → Present (k .waits) i → Present next i → mapped (λ r. r .level) (row-at rows i) ≡ levels-of k i)
+      (size : length rows ≡ length (k .rows)) (rest : (i : ℕ) → (Present next i → ⊥) → row-at rows i ≡ row-at (k .rows) i)
+      (a : Accepted urgent (record { waits = k .waits; rows = rows }) next waiting r k′) where
     whole : Book U
     whole = after urgent (levels-of k) (book-of k) c
 
     reaches : book-of k′ ≡ whole
     unfolding whole
-    reaches = a .book ∙ ap (λ f. record { waits = x; base = f }) (fun-ext bases) ∙ ap (λ w. record { waits = w; base = base-after (book-of k .base) c }) step
+    reaches = a .book ∙ ap (λ f. record { waits = next; base = f }) (fun-ext bases)
 
     -- the levels before, where they count
-    same-changed : (b : Book U) → b .waits ≡ x → changed urgent (levels-of (record { waits = k .waits; rows = rows })) (k .waits) b ≡ changed urgent (levels-of k) (k .waits) b
+    same-changed : (b : Book U) → b .waits ≡ next → changed urgent (levels-of (record { waits = k .waits; rows = rows })) (k .waits) b ≡ changed urgent (levels-of k) (k .waits) b
     same-changed b e = those-same _ _ (λ i _. go i (isSome (k .waits .tasks i)) (isSome (b .waits .tasks i)) refl refl)
       where
         go : (i : ℕ) (p q : Bool) → isSome (k .waits .tasks i) ≡ p → isSome (b .waits .tasks i) ≡ q
@@ -109,13 +113,12 @@ module _ {U : Type 0} (urgent : U → U → Bool) (k : State U) (c : Call U) whe
         go i true false d f = refl
         go i false q d f = refl
 
-    answers : r ≡ (left-waiting (whole .waits) c, woken (k .waits) (whole .waits), changed urgent (levels-of k) (k .waits) whole)
+    answers : r ≡ (left-waiting next c, woken (k .waits) next, changed urgent (levels-of k) (k .waits) whole)
     unfolding whole
     answers =
-        a .answer ∙ ap (λ d. (waiting, woken (k .waits) x, d)) (same-changed (book-of k′) (a .waits))
-        ∙ ap (λ b. (waiting, woken (k .waits) x, changed urgent (levels-of k) (k .waits) b)) reaches
-        ∙ ap (λ y. (y, woken (k .waits) x, changed urgent (levels-of k) (k .waits) whole)) still
-        ∙ ap (λ w. (left-waiting w c, woken (k .waits) w, changed urgent (levels-of k) (k .waits) whole)) step
+        a .answer ∙ ap (λ d. (waiting, woken (k .waits) next, d)) (same-changed (book-of k′) (a .waits))
+        ∙ ap (λ b. (waiting, woken (k .waits) next, changed urgent (levels-of k) (k .waits) b)) reaches
+        ∙ ap (λ y. (y, woken (k .waits) next, changed urgent (levels-of k) (k .waits) whole)) still
 
     pub made-accepted : Made urgent k c (Ok r) k′
     unfolding whole step-by
@@ -133,3 +136,78 @@ module _ {U : Type 0} (urgent : U → U → Bool) (k : State U) (c : Call U) whe
       where
         never : {j : Refusal} → Ok r ≡ Err j → ⊥
         never e = let z : _≡_ {A = ℕ} 0 1 = cc in omega arith
+
+-- ---- the three calls that write bases or rows
+module _ {U : Type 0} (urgent : U → U → Bool) (k : State U) (t : ℕ) (r : Bool × ℕ × ℕ) (k′ : State U) (l : 64 ≤ length (k .rows)) where
+  -- the base of i is what its row holds, where i is present
+  base-at : Waits → List (Row U) → ℕ → Option U
+  base-at w rows i = if-present (w .tasks i) (mapped (λ r. r .base) (row-at rows i))
+
+  other : (i : ℕ) → (Present (with-task (k .waits) t (Some Ready)) i → ⊥) → i ≡ t → ⊥
+  other i h e = h (subst (λ o. T (isSome o)) (sym (ap (put (k .waits .tasks) t (Some Ready)) e ∙ put-same (k .waits .tasks) t (Some Ready))) tt)
+
+  module _ (v : U) where
+    row : Row U
+    row = record { base = v; level = v }
+
+    pub made-task : refusal (first urgent (levels-of k)) (k .waits) (Task t tt) ≡ None → t < 64 → k .waits .tasks t ≡ None
+        → Accepted urgent (record { waits = k .waits; rows = set (k .rows) t (record { base = v; level = v }) }) (with-task (k .waits) t (Some Ready)) false r k′ → Made urgent k (Task t v) (Ok r) k′
+    unfolding row base-at
+    made-task fine low absent a =
+        made-accepted urgent k (Task t v) (set (k .rows) t row) false r k′ l fine (λ i. bases i (ℕ-discrete i t)) refl (λ i p _. ap (mapped (λ r. r .level)) (away i (λ e. missing i e p)))
+        (length-set (k .rows) t row) (λ i h. away i (other i h)) a
+      where
+        away : (i : ℕ) → (i ≡ t → ⊥) → row-at (set (k .rows) t row) i ≡ row-at (k .rows) i
+        away i ne = row-set-other (k .rows) t i row ne
+        missing : (i : ℕ) → i ≡ t → Present (k .waits) i → ⊥
+        missing i e p = subst (λ o. T (isSome o)) (ap (k .waits .tasks) e ∙ absent) p
+        bases : (i : ℕ) → Dec (i ≡ t) → base-at (with-task (k .waits) t (Some Ready)) (set (k .rows) t row) i ≡ put (book-of k .base) t (Some v) i
+        bases i (yes e) =
+            ap (base-at (with-task (k .waits) t (Some Ready)) (set (k .rows) t row)) e
+            ∙ ap (λ o. if-present o (mapped (λ r. r .base) (row-at (set (k .rows) t row) t))) (put-same (k .waits .tasks) t (Some Ready))
+            ∙ ap (mapped (λ r. r .base)) (row-set-same (k .rows) t row (omega arith))
+            ∙ sym (ap (put (book-of k .base) t (Some v)) e ∙ put-same (book-of k .base) t (Some v))
+        bases i (no ne) =
+            ap (λ o. if-present o (mapped (λ r. r .base) (row-at (set (k .rows) t row) i))) (put-other (k .waits .tasks) t (Some Ready) i ne)
+            ∙ ap (λ o. if-present (k .waits .tasks i) (mapped (λ r. r .base) o)) (away i ne)
+            ∙ sym (put-other (book-of k .base) t (Some v) i ne)
+
+  pub made-untask : refusal (first urgent (levels-of k)) (k .waits) (Untask t) ≡ None → Accepted urgent k (with-task (k .waits) t None) false r k′ → Made urgent k (Untask t) (Ok r) k′
+  unfolding base-at
+  made-untask fine a = made-accepted urgent k (Untask t) (k .rows) false r k′ l fine (λ i. bases i (ℕ-discrete i t)) refl (λ i _ _. refl) refl (λ i _. refl) a
+    where
+      bases : (i : ℕ) → Dec (i ≡ t) → base-at (with-task (k .waits) t None) (k .rows) i ≡ put (book-of k .base) t None i
+      bases i (yes e) =
+          ap (base-at (with-task (k .waits) t None) (k .rows)) e ∙ ap (λ o. if-present o (mapped (λ r. r .base) (row-at (k .rows) t))) (put-same (k .waits .tasks) t None)
+          ∙ sym (ap (put (book-of k .base) t None) e ∙ put-same (book-of k .base) t None)
+      bases i (no ne) = ap (λ o. if-present o (mapped (λ r. r .base) (row-at (k .rows) i))) (put-other (k .waits .tasks) t None i ne) ∙ sym (put-other (book-of k .base) t None i ne)
+
+  module _ (v : U) (rows : List (Row U)) (written : (d : Row U) → rows ≡ set (k .rows) t (record { base = v; level = getD (k .rows) t d .level })) where
+    pub made-base : refusal (first urgent (levels-of k)) (k .waits) (Base t tt) ≡ None → t < 64 → Present (k .waits) t
+        → Accepted urgent (record { waits = k .waits; rows = rows }) (k .waits) false r k′ → Made urgent k (Base t v) (Ok r) k′
+    unfolding base-at
+    made-base fine low there a =
+        made-accepted urgent k (Base t v) rows false r k′ l fine (λ i. bases i (ℕ-discrete i t)) refl (λ i _ _. level-at i (ℕ-discrete i t))
+        (ap length (written any) ∙ length-set (k .rows) t _) (λ i h. away i (λ e. h (subst (Present (k .waits)) (sym e) there))) a
+      where
+        any : Row U
+        any = record { base = v; level = v }
+        new : Row U
+        new = record { base = v; level = getD (k .rows) t any .level }
+        away : (i : ℕ) → (i ≡ t → ⊥) → row-at rows i ≡ row-at (k .rows) i
+        away i ne = ap (λ rows. row-at rows i) (written any) ∙ row-set-other (k .rows) t i _ ne
+        here : row-at rows t ≡ Some (record { base = v; level = getD (k .rows) t any .level })
+        here = ap (λ rows. row-at rows t) (written any) ∙ row-set-same (k .rows) t _ (omega arith)
+        level-at : (i : ℕ) → Dec (i ≡ t) → mapped (λ r. r .level) (row-at rows i) ≡ levels-of k i
+        level-at i (yes e) =
+            ap (λ i. mapped (λ r. r .level) (row-at rows i)) e ∙ ap (mapped (λ r. r .level)) here
+            ∙ sym (ap (levels-of k) e ∙ ap (mapped (λ r. r .level)) (row-there (k .rows) t any (omega arith)))
+        level-at i (no ne) = ap (mapped (λ r. r .level)) (away i ne)
+        present : (o : Option Wait) → T (isSome o) → (u : Option U) → if-present o u ≡ u
+        present (Some w) p u = refl
+        present None p u = absurd p
+        bases : (i : ℕ) → Dec (i ≡ t) → base-at (k .waits) rows i ≡ put (book-of k .base) t (Some v) i
+        bases i (yes e) =
+            ap (base-at (k .waits) rows) e ∙ present (k .waits .tasks t) there (mapped (λ r. r .base) (row-at rows t)) ∙ ap (mapped (λ r. r .base)) here
+            ∙ sym (ap (put (book-of k .base) t (Some v)) e ∙ put-same (book-of k .base) t (Some v))
+        bases i (no ne) = ap (λ o. if-present (k .waits .tasks i) (mapped (λ r. r .base) o)) (away i ne) ∙ sym (put-other (book-of k .base) t (Some v) i ne)

@@ -2,9 +2,10 @@
 ghost use mathlib.Core.Path.{_≡_};
 ghost use Prim.Native.Nat.{_<_, _≤_};
 ghost use denote.Ref.{name};
-ghost use lib.ListN.{length};
+ghost use lib.ListN.{length, getD, set};
 ghost use Rattle.std.specs.declared.result.Result.the-variants.{Ok, Err};
 ghost use Rattle.waits.specs.Table.{waits-of};
+ghost use Rattle.book.specs.declared.row.Row.{Row};
 ghost use Rattle.book.specs.declared.call.Call.the-variants.{Task, Untask, Base};
 ghost use Rattle.book.specs.declared.refusal.Refusal.the-variants.{FewRows};
 ghost use Rattle.book.specs.Kernel.{book-of, levels-of, if-present, opened, running-of, calls, Made, Run};
@@ -15,7 +16,9 @@ use book::LogEntry;
 use book::Refusal;
 use book::Reply;
 use book::Row;
+use inheritance::base_in;
 use inheritance::first;
+use inheritance::level_in;
 use inheritance::settle;
 use tasksets::TaskSet;
 use urgency::Urgency;
@@ -40,6 +43,26 @@ impl<'a, U: Urgency> Kernel<'a, U> {
         Kernel { rows, table }
     }
 
+    // Writes row t.
+    fn put_row(&mut self, t: u32, row: Row<U>)
+        requires { ⌜ t < length (now (now self .rows)) ⌝ }
+        ensures rows { λ _. ⌜ now (now (self .exit) .rows) ≡ set (now (now (self .entry) .rows)) t row ⌝ }
+        ensures table { λ _. ⌜ now (self .exit) .table ≡ now (self .entry) .table ⌝ }
+        ensures named { λ _. ⌜ name (now (self .exit) .rows) ≡ name (now (self .entry) .rows) ⌝ }
+    {
+        self.rows[t as usize] = row;
+    }
+
+    // Writes the base in row t.
+    fn put_base(&mut self, t: u32, v: U)
+        requires { ⌜ t < length (now (now self .rows)) ⌝ }
+        ensures rows { λ _. ⌜ ((d : Row U) → now (now (self .exit) .rows) ≡ set (now (now (self .entry) .rows)) t (record { base = v; level = getD (now (now (self .entry) .rows)) t d .level })) ⌝ }
+        ensures table { λ _. ⌜ now (self .exit) .table ≡ now (self .entry) .table ⌝ }
+        ensures named { λ _. ⌜ name (now (self .exit) .rows) ≡ name (now (self .entry) .rows) ⌝ }
+    {
+        self.rows[t as usize].base = v;
+    }
+
     // The end of every accepted call: the next table is written whole, the levels are worked out, and the answer is told.
     fn accept(&mut self, next: WaitTable, waiting: bool) -> (bool, TaskSet, TaskSet)
         requires { ⌜ 64 ≤ length (now (now self .rows)) ⌝ }
@@ -53,4 +76,134 @@ impl<'a, U: Urgency> Kernel<'a, U> {
         *table = next;
         (waiting, woken, changed)
     }
+
+    /// `task t v`: t becomes present and ready, with base v.
+    pub fn task(&mut self, t: u32, v: U) -> Reply
+        ensures made { λ r. ⌜ Made urgent (state-of (now (self .entry))) (Task t v) r (state-of (now (self .exit))) ⌝ }
+        ensures named { λ _. ⌜ name (now (self .exit) .rows) ≡ name (now (self .entry) .rows) ⌝ }
+    {
+        if self.rows.len() < 64 {
+            return Err(Refusal::FewRows);
+        }
+        let next = steps::task(&self.table, t)?;
+        self.put_row(t, Row { base: v, level: v });
+        let answer = self.accept(next, false);
+        Ok(answer)
+    }
+
+    /// `untask t`: t becomes absent; its row keeps what it holds.
+    pub fn untask(&mut self, t: u32) -> Reply
+        ensures made { λ r. ⌜ Made urgent (state-of (now (self .entry))) (Untask t) r (state-of (now (self .exit))) ⌝ }
+        ensures named { λ _. ⌜ name (now (self .exit) .rows) ≡ name (now (self .entry) .rows) ⌝ }
+    {
+        if self.rows.len() < 64 {
+            return Err(Refusal::FewRows);
+        }
+        let next = steps::untask(&self.table, t)?;
+        let answer = self.accept(next, false);
+        Ok(answer)
+    }
+
+    /// `base t v`: the base of t is v from now on.
+    pub fn base(&mut self, t: u32, v: U) -> Reply
+        ensures made { λ r. ⌜ Made urgent (state-of (now (self .entry))) (Base t v) r (state-of (now (self .exit))) ⌝ }
+        ensures named { λ _. ⌜ name (now (self .exit) .rows) ≡ name (now (self .entry) .rows) ⌝ }
+    {
+        if self.rows.len() < 64 {
+            return Err(Refusal::FewRows);
+        }
+        let next = steps::base(&self.table, t)?;
+        self.put_base(t, v);
+        let answer = self.accept(next, false);
+        Ok(answer)
+    }
+
+    /// Makes any call.
+    pub fn make(&mut self, call: Call<U>) -> Reply
+        ensures made { λ r. ⌜ Made urgent (state-of (now (self .entry))) call r (state-of (now (self .exit))) ⌝ }
+        ensures named { λ _. ⌜ name (now (self .exit) .rows) ≡ name (now (self .entry) .rows) ⌝ }
+    {
+        match call {
+            Call::Task(t, v) => self.task(t, v),
+            Call::Untask(t) => self.untask(t),
+            Call::Base(t, v) => self.base(t, v),
+        }
+    }
+
+    /// The base of task t.
+    pub fn base_of(&self, t: u32) -> Result<U, Refusal>
+        ensures { λ r. ⌜ r ≡ answered t (book-of (state-of (now (self .entry))) .base t) ⌝ }
+    {
+        if t > 63 {
+            return Err(Refusal::Over63);
+        }
+        let Some(base) = base_in(&self.table, self.rows, t) else {
+            return Err(Refusal::NotDeclared);
+        };
+        Ok(base)
+    }
+
+    /// The level of task t: its urgency at present.
+    pub fn level_of(&self, t: u32) -> Result<U, Refusal>
+        ensures { λ r. ⌜ r ≡ answered t (if-present (waits-of (now (self .entry) .table) .tasks t) (levels-of (state-of (now (self .entry))) t)) ⌝ }
+    {
+        if t > 63 {
+            return Err(Refusal::Over63);
+        }
+        let Some(_) = self.table.task(t) else {
+            return Err(Refusal::NotDeclared);
+        };
+        let Some(level) = level_in(self.rows, t) else {
+            return Err(Refusal::NotDeclared);
+        };
+        Ok(level)
+    }
+
+    /// The state of task t: ready, or where it waits.
+    pub fn state_of(&self, t: u32) -> Result<Wait, Refusal>
+        ensures { λ r. ⌜ r ≡ answered t (waits-of (now (self .entry) .table) .tasks t) ⌝ }
+    {
+        if t > 63 {
+            return Err(Refusal::Over63);
+        }
+        let Some(wait) = self.table.task(t) else {
+            return Err(Refusal::NotDeclared);
+        };
+        Ok(wait)
+    }
+
+    /// The running task: the first of the ready tasks.
+    pub fn running(&self) -> Option<u32>
+        ensures { λ r. ⌜ r ≡ running-of urgent (state-of (now (self .entry))) ⌝ }
+    {
+        let ready = self.table.those(Test::Doing(Wait::Ready));
+        first(self.rows, ready)
+    }
+}
+
+/// Whether there are rows enough for a kernel: told before opening.
+pub fn check_rows<U: Urgency>(rows: &[Row<U>]) -> Result<(), Refusal>
+    ensures { λ r. ⌜ elim r [ Ok _ ↦ 64 ≤ length (now (rows .entry)) | Err k ↦ (k ≡ FewRows) × (length (now (rows .entry)) < 64) ] ⌝ }
+{
+    if rows.len() < 64 {
+        return Err(Refusal::FewRows);
+    }
+    Ok(())
+}
+
+/// Opens a kernel over any rows and makes the calls of the log in turn, noting the reply and the running task after each.
+pub fn run<'a, U: Urgency>(rows: &'a mut [Row<U>], log: &mut [LogEntry<U>]) -> Kernel<'a, U>
+    ensures run { λ r. ⌜ Run urgent (now (rows .entry)) (now (log .exit)) (state-of r) ⌝ }
+    ensures calls { λ _. ⌜ calls (now (log .exit)) ≡ calls (now (log .entry)) ⌝ }
+    ensures lawful { λ _. ⌜ Lawful urgent ⌝ }
+    ensures named { λ r. ⌜ name (r .rows) ≡ name (rows .entry) ⌝ }
+{
+    let mut kernel = Kernel::open(rows);
+    for i in 0..log.len() {
+        let call = log[i].call;
+        let reply = kernel.make(call);
+        let running = kernel.running();
+        log[i] = LogEntry { call, reply, running };
+    }
+    kernel
 }

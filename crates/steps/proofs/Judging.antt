@@ -2,8 +2,9 @@
 use mathlib.Core.Path.{_≡_, refl, sym, _∙_, ap}
 use mathlib.Core.Bool.{Bool, true, false, cond, not, _&&_, _||_}
 use Prim.Native.Nat.{ℕ, _<_, _≤_}
+use native.Mathlib.Decide.{decLt}
 use native.Mathlib.Omega.{arith}
-use lib.Dec.{ltb}
+use lib.Dec.{T, ltb}
 use Rattle.std.proofs.shelf.Ways.{tells}
 use Rattle.std.specs.Options.{isSome}
 use Rattle.std.specs.declared.option.Option.{Option}
@@ -101,3 +102,28 @@ module _ (w : Waits) (t : ℕ) where
   pub base-fine : t ≤ 63 → (v : Wait) → w .tasks t ≡ Some v → Facts w → refusal nobody w (Base t tt) ≡ None
   unfolding refusals
   base-fine l v e f = rw (under t l, not-missing (w .tasks t) v e, ring-false w f)
+
+-- ---- what an accepted call found
+module _ (w : Waits) (t : ℕ) where
+  never : (k : Refusal) (r : Option Refusal) → r ≡ None → r ≡ Some k → ⊥
+  never k r e d = let z : _≡_ {A = ℕ} 0 1 = cc in omega arith
+
+  pub task-found : refusal nobody w (Task t tt) ≡ None → (t < 64) × (w .tasks t ≡ None)
+  task-found fine = go (decLt 63 t)
+    where
+      absent : t ≤ 63 → (o : Option Wait) → w .tasks t ≡ o → w .tasks t ≡ None
+      absent l None e = e
+      absent l (Some v) e = absurd (never AlreadyThere _ fine (task-there w t l v e))
+      go : Dec (63 < t) → (t < 64) × (w .tasks t ≡ None)
+      go (yes l) = absurd (never Over63 _ fine (task-over w t l))
+      go (no l) = (omega arith, absent (omega arith) (w .tasks t) refl)
+
+  pub base-found : refusal nobody w (Base t tt) ≡ None → (t < 64) × T (isSome (w .tasks t))
+  base-found fine = go (decLt 63 t)
+    where
+      there′ : t ≤ 63 → (o : Option Wait) → w .tasks t ≡ o → T (isSome o)
+      there′ l None e = absurd (never NotDeclared _ fine (base-missing w t l e))
+      there′ l (Some v) e = tt
+      go : Dec (63 < t) → (t < 64) × T (isSome (w .tasks t))
+      go (yes l) = absurd (never Over63 _ fine (base-over w t l))
+      go (no l) = (omega arith, there′ (omega arith) (w .tasks t) refl)
