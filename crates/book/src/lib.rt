@@ -2,6 +2,7 @@
 mod call;
 mod refusal;
 mod row;
+
 pub use call::Call;
 pub use call::LogEntry;
 pub use call::Reply;

@@ -92,13 +92,13 @@ module _ {U : Type 0} (urgent : U → U → Bool) (value : ℕ → Option U) whe
       pub taking-turn : Taking left′ (upper urgent top (value k))
       unfolding most-below
       taking-turn = record {
-            n = k + 1;
-            n≤ = omega arith;
-            done =
-                ap (λ u. upper urgent u (value k)) (t .done ∙ sym (upto (t .n) k from between))
-                ∙ sym (ap (λ j. most-below urgent value j m) (add-one k) ∙ ap (λ x. elim x [ true ↦ upper urgent (most-below urgent value k m) (value k) | false ↦ most-below urgent value k m ]) (true-of (has m k) (and-left (has m k) _ member)));
-            rest = λ j. fewer j ∙ ap (λ x. x && not (eqb j k)) (t .rest j) ∙ beyond j;
-          }
+        n = k + 1;
+        n≤ = omega arith;
+        done =
+            ap (λ u. upper urgent u (value k)) (t .done ∙ sym (upto (t .n) k from between))
+            ∙ sym (ap (λ j. most-below urgent value j m) (add-one k) ∙ ap (λ x. elim x [ true ↦ upper urgent (most-below urgent value k m) (value k) | false ↦ most-below urgent value k m ]) (true-of (has m k) (and-left (has m k) _ member)));
+        rest = λ j. fewer j ∙ ap (λ x. x && not (eqb j k)) (t .rest j) ∙ beyond j;
+      }
         where
           cases : (x : Bool) (j : ℕ) → (T x → t .n ≤ j → j < k → ⊥) → ((x && leb (t .n) j) && not (eqb j k)) ≡ (x && leb (k + 1) j)
           cases false j none = refl
@@ -107,6 +107,7 @@ module _ {U : Type 0} (urgent : U → U → Bool) (value : ℕ → Option U) whe
               go : Dec (j < k) → (leb (t .n) j && not (eqb j k)) ≡ leb (k + 1) j
               go (yes l) = let out : (t .n ≤ j → ⊥) = λ b. none tt b l in grind (arith, tells)
               go (no l) = let b : t .n ≤ k = from in grind (arith, tells)
+
           beyond : (j : ℕ) → ((has m j && leb (t .n) j) && not (eqb j k)) ≡ (has m j && leb (k + 1) j)
           beyond j = cases (has m j) j (λ h l b. subst T (between j l b) h)
 

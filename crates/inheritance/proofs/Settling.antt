@@ -121,12 +121,15 @@ module _ {U : Type 0} (urgent : U → U → Bool) (t : WaitTable) (standing : �
       where
         rowed : (i : ℕ) → i < 64 → T (isSome (row-at rows i))
         rowed i l = row-some rows i (omega arith)
+
         self : (i : ℕ) → i < 64 → has (leading (waits-of t) i) i ≡ true
         self i l = true-of (has (leading (waits-of t) i) i) (T-has (leading (waits-of t) i) i (leading-all (waits-of t) (facts-of t .sound) i l i here))
+
         based : (i : ℕ) (o : Option Wait) → T (isSome o) → (r : Option (Row U)) → T (isSome r) → T (isSome (if-present o (mapped (λ r. r .base) r)))
         based i (Some w) p (Some r) q = tt
         based i (Some w) p None q = q
         based i None p r q = absurd p
+
         go : (o : Option Wait) → T (isSome o) → (r : Option (Row U)) → T (isSome r) → (u : Option U) → T (isSome u) → mapped (λ r. r .level) (mapped (releveled o u) r) ≡ u
         go (Some w) p (Some r) q (Some u) h = refl
         go (Some w) p (Some r) q None h = absurd h
@@ -140,6 +143,7 @@ module _ {U : Type 0} (urgent : U → U → Bool) (t : WaitTable) (standing : �
         same-row None ne u None = refl
         same-row None ne u (Some r) = refl
         same-row (Some w) ne u r = absurd (ne tt)
+
         go : Dec (i < 64) → row-at now i ≡ row-at rows i
         go (yes l) = s .done i l ∙ same-row (waits-of t .tasks i) ne (to i) (row-at rows i)
         go (no l) = s .rest i (omega arith)

@@ -27,7 +27,11 @@ pub fn row<U: Urgency>(rows: &[Row<U>], i: u32) -> Option<Row<U>>
     ensures { λ r. ⌜ r ≡ row-at (now (rows .entry)) i ⌝ }
 {
     let at = i as usize;
-    if at < rows.len() { Some(rows[at]) } else { None }
+    if at < rows.len() {
+        Some(rows[at])
+    } else {
+        None
+    }
 }
 
 /// The level in row i, if there is such a row.
@@ -93,8 +97,7 @@ fn put_level<U: Urgency>(table: &WaitTable, rows: &mut [Row<U>], t: u32, level: 
 
 /// Works out the levels of all tasks and writes them into the rows of those that are present; the answer is the tasks of `standing` whose level was another.
 pub fn settle<U: Urgency>(table: &WaitTable, standing: TaskSet, rows: &mut [Row<U>]) -> TaskSet
-    requires { ⌜ 64 ≤ length (now rows) ⌝ }
-    ensures { λ r. ⌜ Settled urgent (now (table .entry)) standing (now (rows .entry)) (now (rows .exit)) r ⌝ }
+    ensures { λ r. ⌜ (64 ≤ length (now (rows .entry)) → Settled urgent (now (table .entry)) standing (now (rows .entry)) (now (rows .exit)) r) ⌝ }
 {
     let leading = table.leading();
     let mut changed: TaskSet = 0;
@@ -115,7 +118,11 @@ fn better<U: Urgency>(rows: &[Row<U>], best: Option<u32>, i: u32) -> Option<u32>
     let Some(k) = best else {
         return Some(i);
     };
-    if at_least(level_in(rows, k), level_in(rows, i)) { best } else { Some(i) }
+    if at_least(level_in(rows, k), level_in(rows, i)) {
+        best
+    } else {
+        Some(i)
+    }
 }
 
 /// The first of a set: the task with the most urgent level in its row, and the smallest number where levels are equal.

@@ -68,11 +68,11 @@ module _ {U : Type 0} (urgent : U → U → Bool) (k : State U) (c : Call U) whe
   refused : (j : Refusal) → judged ≡ Some j → Made urgent k c (Err j) k
   unfolding step-by
   refused j e = record {
-        stepped = sym (ap (λ r. (kept-or urgent (book-of k) x r, answer urgent (levels-of k) (book-of k) c x r)) e);
-        right = λ h. absurd h;
-        refused = λ i q. refl;
-        kept = record { size = refl; rest = λ i h. refl };
-      }
+    stepped = sym (ap (λ r. (kept-or urgent (book-of k) x r, answer urgent (levels-of k) (book-of k) c x r)) e);
+    right = λ h. absurd h;
+    refused = λ i q. refl;
+    kept = record { size = refl; rest = λ i h. refl };
+  }
     where
       x : Book U
       x = after urgent (levels-of k) (book-of k) c
@@ -123,16 +123,16 @@ module _ {U : Type 0} (urgent : U → U → Bool) (k : State U) (c : Call U) whe
     pub made-accepted : Made urgent k c (Ok r) k′
     unfolding whole step-by
     made-accepted = record {
-          stepped =
-              ap (λ b. (b, Ok r)) reaches ∙ ap (λ r. (whole, Ok r)) answers
-              ∙ sym (ap (λ r. (kept-or urgent (book-of k) whole r, answer urgent (levels-of k) (book-of k) c whole r)) (judged-is l ∙ fine));
-          right = λ _. a .right;
-          refused = λ j e. absurd (never e);
-          kept = record {
-            size = a .kept .size ∙ size;
-            rest = λ i h. a .kept .rest i h ∙ rest i (λ p. h (subst (λ w. Present w i) (sym (a .waits)) p));
-          };
-        }
+      stepped =
+          ap (λ b. (b, Ok r)) reaches ∙ ap (λ r. (whole, Ok r)) answers
+          ∙ sym (ap (λ r. (kept-or urgent (book-of k) whole r, answer urgent (levels-of k) (book-of k) c whole r)) (judged-is l ∙ fine));
+      right = λ _. a .right;
+      refused = λ j e. absurd (never e);
+      kept = record {
+        size = a .kept .size ∙ size;
+        rest = λ i h. a .kept .rest i h ∙ rest i (λ p. h (subst (λ w. Present w i) (sym (a .waits)) p));
+      };
+    }
       where
         never : {j : Refusal} → Ok r ≡ Err j → ⊥
         never e = let z : _≡_ {A = ℕ} 0 1 = cc in omega arith
@@ -159,8 +159,10 @@ module _ {U : Type 0} (urgent : U → U → Bool) (k : State U) (t : ℕ) (r : B
       where
         away : (i : ℕ) → (i ≡ t → ⊥) → row-at (set (k .rows) t row) i ≡ row-at (k .rows) i
         away i ne = row-set-other (k .rows) t i row ne
+
         missing : (i : ℕ) → i ≡ t → Present (k .waits) i → ⊥
         missing i e p = subst (λ o. T (isSome o)) (ap (k .waits .tasks) e ∙ absent) p
+
         bases : (i : ℕ) → Dec (i ≡ t) → base-at (with-task (k .waits) t (Some Ready)) (set (k .rows) t row) i ≡ put (book-of k .base) t (Some v) i
         bases i (yes e) =
             ap (base-at (with-task (k .waits) t (Some Ready)) (set (k .rows) t row)) e
@@ -192,20 +194,26 @@ module _ {U : Type 0} (urgent : U → U → Bool) (k : State U) (t : ℕ) (r : B
       where
         any : Row U
         any = record { base = v; level = v }
+
         new : Row U
         new = record { base = v; level = getD (k .rows) t any .level }
+
         away : (i : ℕ) → (i ≡ t → ⊥) → row-at rows i ≡ row-at (k .rows) i
         away i ne = ap (λ rows. row-at rows i) (written any) ∙ row-set-other (k .rows) t i _ ne
+
         here : row-at rows t ≡ Some (record { base = v; level = getD (k .rows) t any .level })
         here = ap (λ rows. row-at rows t) (written any) ∙ row-set-same (k .rows) t _ (omega arith)
+
         level-at : (i : ℕ) → Dec (i ≡ t) → mapped (λ r. r .level) (row-at rows i) ≡ levels-of k i
         level-at i (yes e) =
             ap (λ i. mapped (λ r. r .level) (row-at rows i)) e ∙ ap (mapped (λ r. r .level)) here
             ∙ sym (ap (levels-of k) e ∙ ap (mapped (λ r. r .level)) (row-there (k .rows) t any (omega arith)))
         level-at i (no ne) = ap (mapped (λ r. r .level)) (away i ne)
+
         present : (o : Option Wait) → T (isSome o) → (u : Option U) → if-present o u ≡ u
         present (Some w) p u = refl
         present None p u = absurd p
+
         bases : (i : ℕ) → Dec (i ≡ t) → base-at (k .waits) rows i ≡ put (book-of k .base) t (Some v) i
         bases i (yes e) =
             ap (base-at (k .waits) rows) e ∙ present (k .waits .tasks t) there (mapped (λ r. r .base) (row-at rows t)) ∙ ap (mapped (λ r. r .base)) here

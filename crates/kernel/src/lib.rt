@@ -203,7 +203,11 @@ pub fn run<'a, U: Urgency>(rows: &'a mut [Row<U>], log: &mut [LogEntry<U>]) -> K
         let call = log[i].call;
         let reply = kernel.make(call);
         let running = kernel.running();
-        log[i] = LogEntry { call, reply, running };
+        log[i] = LogEntry {
+            call,
+            reply,
+            running,
+        };
     }
     kernel
 }

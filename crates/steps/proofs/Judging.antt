@@ -114,6 +114,7 @@ module _ (w : Waits) (t : ℕ) where
       absent : t ≤ 63 → (o : Option Wait) → w .tasks t ≡ o → w .tasks t ≡ None
       absent l None e = e
       absent l (Some v) e = absurd (never AlreadyThere _ fine (task-there w t l v e))
+
       go : Dec (63 < t) → (t < 64) × (w .tasks t ≡ None)
       go (yes l) = absurd (never Over63 _ fine (task-over w t l))
       go (no l) = (omega arith, absent (omega arith) (w .tasks t) refl)
@@ -124,6 +125,7 @@ module _ (w : Waits) (t : ℕ) where
       there′ : t ≤ 63 → (o : Option Wait) → w .tasks t ≡ o → T (isSome o)
       there′ l None e = absurd (never NotDeclared _ fine (base-missing w t l e))
       there′ l (Some v) e = tt
+
       go : Dec (63 < t) → (t < 64) × T (isSome (w .tasks t))
       go (yes l) = absurd (never Over63 _ fine (base-over w t l))
       go (no l) = (omega arith, there′ (omega arith) (w .tasks t) refl)

@@ -184,6 +184,7 @@ module _ (m k r : ℕ) (m< : m < 2 ^ 64) (r< : r < 2 ^ 64) (members : (j : ℕ) 
     where
       other : (j : ℕ) → j < 64 → eqb j k ≡ false
       other j h = ne-eqb j k (λ e. omega arith)
+
       or-false : (x : Bool) → (x || false) ≡ x
       or-false true = refl
       or-false false = refl

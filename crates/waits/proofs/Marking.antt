@@ -43,11 +43,11 @@ module _ (to i : ℕ) (before : List ℕ) where
       (fewer : (t : ℕ) → has left′ t ≡ (has left t && not (eqb t k))) (one : (j : ℕ) → j < 64 → has v j ≡ (has (getD sets k 0) j || eqb j i)) (e : sets′ ≡ set sets k v) where
     pub adding-turn : Adding left′ sets′
     adding-turn = record {
-          long = ap length e ∙ length-set sets k v ∙ r .long;
-          inside = λ t g. r .inside t (in-left t g .0);
-          still = λ t g. other t (in-left t g .1) ∙ r .still t (in-left t g .0);
-          done = λ t j b g. done t j b g (ℕ-discrete t k);
-        }
+      long = ap length e ∙ length-set sets k v ∙ r .long;
+      inside = λ t g. r .inside t (in-left t g .0);
+      still = λ t g. other t (in-left t g .1) ∙ r .still t (in-left t g .0);
+      done = λ t j b g. done t j b g (ℕ-discrete t k);
+    }
       where
         split : (x y : Bool) → (x && not y) ≡ true → (x ≡ true) × (y ≡ false)
         split true false e = (refl, refl)
@@ -97,11 +97,13 @@ below-more p j i = go (ℕ-discrete j i)
     here : (x : Bool) → ((x && ltb i i) || (x && eqb i i)) ≡ (x && ltb i (i + 1))
     here true = grind (arith, tells)
     here false = refl
+
     there : (x y : Bool) → (j ≡ i → ⊥) → ((x && ltb j i) || (y && eqb j i)) ≡ (x && ltb j (i + 1))
     there true true ne = grind (arith, tells)
     there true false ne = grind (arith, tells)
     there false true ne = ne-eqb j i ne
     there false false ne = refl
+
     go : Dec (j ≡ i) → ((p j && ltb j i) || (p i && eqb j i)) ≡ (p j && ltb j (i + 1))
     go (yes e) = subst (λ k. ((p k && ltb k i) || (p i && eqb k i)) ≡ (p k && ltb k (i + 1))) (sym e) (here (p i))
     go (no ne) = there (p j) (p i) ne

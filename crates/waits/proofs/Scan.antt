@@ -24,23 +24,23 @@ module _ (awaits : ℕ → ℕ → Type 0) (start : ℕ) where
 module _ {awaits : ℕ → ℕ → Type 0} {start : ℕ} where
   pub scan-start : start < 64 → Scan awaits start 0 (2 ^ start)
   scan-start l = record {
-        seen< = omega arith;
-        todo< = pow-lt l;
-        apart = λ k. omega (arith, bit-none k, bit-le (2 ^ start) k);
-        from = λ _. omega (arith, bit-or 0 (2 ^ start) start, bit-pow start, bit-none start);
-        next = λ i j b a. absurd (omega (arith, bit-none i));
-        only = λ k b. ⊎-elim (λ h. absurd (omega (arith, bit-none k))) (λ h. subst (Chain awaits start) (sym (has-pow start k h)) here) (has-or 0 (2 ^ start) k b);
-      }
+    seen< = omega arith;
+    todo< = pow-lt l;
+    apart = λ k. omega (arith, bit-none k, bit-le (2 ^ start) k);
+    from = λ _. omega (arith, bit-or 0 (2 ^ start) start, bit-pow start, bit-none start);
+    next = λ i j b a. absurd (omega (arith, bit-none i));
+    only = λ k b. ⊎-elim (λ h. absurd (omega (arith, bit-none k))) (λ h. subst (Chain awaits start) (sym (has-pow start k h)) here) (has-or 0 (2 ^ start) k b);
+  }
 
   pub scan-none : 64 ≤ start → Scan awaits start 0 0
   scan-none l = record {
-        seen< = omega arith;
-        todo< = omega arith;
-        apart = λ k. omega (arith, bit-none k);
-        from = λ h. absurd (omega arith);
-        next = λ i j b a. absurd (omega (arith, bit-none i));
-        only = λ k b. absurd (⊎-elim (λ h. omega (arith, bit-none k)) (λ h. omega (arith, bit-none k)) (has-or 0 0 k b));
-      }
+    seen< = omega arith;
+    todo< = omega arith;
+    apart = λ k. omega (arith, bit-none k);
+    from = λ h. absurd (omega arith);
+    next = λ i j b a. absurd (omega (arith, bit-none i));
+    only = λ k b. absurd (⊎-elim (λ h. omega (arith, bit-none k)) (λ h. omega (arith, bit-none k)) (has-or 0 0 k b));
+  }
 
   pub scan-end : {seen todo : ℕ} → ((i j : ℕ) → awaits i j → i < 64) → Scan awaits start seen todo → todo ≡ 0 → Reached awaits start (Has seen)
   scan-end {seen} {todo} low s e = record { only = λ k b. s .only k (subst (λ x. Has x k) (sym same) b); all = all }

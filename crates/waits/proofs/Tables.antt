@@ -50,19 +50,19 @@ getD-put xs d k v l i = go (eqb i k) refl
 -- a table has the facts that are parts of its type
 pub facts-of : (t : WaitTable) → Facts (waits-of t)
 facts-of t = record {
-      sound = record {
-        tasks< = there-below (t .tasks) 64 (t .sized .0);
-        semaphores< = there-below (t .semaphores) 64 (t .sized .1);
-        conditions< = there-below (t .conditions) 64 (t .sized .2);
-        known = t .known;
-        holders = t .holders;
-        helpers = t .helpers;
-        belong = t .belong;
-        held = t .held;
-        bare = t .bare;
-      };
-      free = t .free;
-    }
+  sound = record {
+    tasks< = there-below (t .tasks) 64 (t .sized .0);
+    semaphores< = there-below (t .semaphores) 64 (t .sized .1);
+    conditions< = there-below (t .conditions) 64 (t .sized .2);
+    known = t .known;
+    holders = t .holders;
+    helpers = t .helpers;
+    belong = t .belong;
+    held = t .held;
+    bare = t .bare;
+  };
+  free = t .free;
+}
 
 -- empty arrays hold nothing
 pub none-there : waits (replicate 64 None) (replicate 64 None) (replicate 64 None) ≡ nothing
@@ -80,19 +80,19 @@ task-written ts ss cs t v l =
 -- where nothing is present, the facts hold
 pub nothing-facts : Facts nothing
 nothing-facts = record {
-      sound = record {
-        tasks< = λ t p. absurd p;
-        semaphores< = λ s p. absurd p;
-        conditions< = λ c p. absurd p;
-        known = λ t c e. absurd (ready-on e);
-        holders = λ t s h. absurd h;
-        helpers = λ t c h. absurd (omega (arith, has-T 0 t h, bit-none t));
-        belong = λ c s h. absurd h;
-        held = λ t s e. absurd (ready-at e);
-        bare = λ t c s e h. h;
-      };
-      free = λ i (j, a, c). omega (arith, bit-none j, a);
-    }
+  sound = record {
+    tasks< = λ t p. absurd p;
+    semaphores< = λ s p. absurd p;
+    conditions< = λ c p. absurd p;
+    known = λ t c e. absurd (ready-on e);
+    holders = λ t s h. absurd h;
+    helpers = λ t c h. absurd (omega (arith, has-T 0 t h, bit-none t));
+    belong = λ c s h. absurd h;
+    held = λ t s e. absurd (ready-at e);
+    bare = λ t c s e h. h;
+  };
+  free = λ i (j, a, c). omega (arith, bit-none j, a);
+}
 
 -- a holder is a task below 64
 pub holder-below : (w : Waits) → Sound w → (s h : ℕ) → w .semaphores s ≡ Some (HeldBy h) → h < 64

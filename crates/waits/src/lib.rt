@@ -14,6 +14,7 @@ ghost use Rattle.waits.specs.Table.{waits-of};
 
 mod parts;
 mod table;
+
 pub use parts::Condition;
 pub use parts::Holder;
 pub use parts::Test;
@@ -27,7 +28,11 @@ use tasksets::without;
 
 impl WaitTable {
     /// The table that three arrays make.
-    fn of(tasks: [Option<Wait>; 64], semaphores: [Option<Holder>; 64], conditions: [Option<Condition>; 64]) -> WaitTable
+    fn of(
+        tasks: [Option<Wait>; 64],
+        semaphores: [Option<Holder>; 64],
+        conditions: [Option<Condition>; 64],
+    ) -> WaitTable
         requires { ⌜ Facts (waits tasks semaphores conditions) ⌝ }
         ensures { λ r. ⌜ waits-of r ≡ waits tasks semaphores conditions ⌝ }
     {
@@ -56,14 +61,22 @@ impl WaitTable {
     pub fn semaphore(&self, s: u32) -> Option<Holder>
         ensures { λ r. ⌜ r ≡ waits-of (now (self .entry)) .semaphores s ⌝ }
     {
-        if s < 64 { self.semaphores[s as usize] } else { None }
+        if s < 64 {
+            self.semaphores[s as usize]
+        } else {
+            None
+        }
     }
 
     /// Condition c, if it is present.
     pub fn condition(&self, c: u32) -> Option<Condition>
         ensures { λ r. ⌜ r ≡ waits-of (now (self .entry)) .conditions c ⌝ }
     {
-        if c < 64 { self.conditions[c as usize] } else { None }
+        if c < 64 {
+            self.conditions[c as usize]
+        } else {
+            None
+        }
     }
 
     /// The table in which task t does `wait` from now on, or is absent.

@@ -9,9 +9,9 @@ use super::parts::Wait;
 /// The wait table: what is present, and who waits for what. Each fact that every kernel keeps is a part of its type.
 #[derive(Clone, Copy)]
 pub struct WaitTable {
-    pub tasks: [Option<Wait>; 64],
-    pub semaphores: [Option<Holder>; 64],
-    pub conditions: [Option<Condition>; 64],
+    pub(crate) tasks: [Option<Wait>; 64],
+    pub(crate) semaphores: [Option<Holder>; 64],
+    pub(crate) conditions: [Option<Condition>; 64],
     ghost sized: { (length tasks ≡ 64) × (length semaphores ≡ 64) × (length conditions ≡ 64) },
     ghost known: { WaitersKnown (waits tasks semaphores conditions) },
     ghost holders: { HoldersPresent (waits tasks semaphores conditions) },

@@ -12,6 +12,6 @@ loop-i-again g c =
     let urgent = g .U·Urgency .urgent in
     let lev = row-levels (c .args .rows .now) in
     elim (c .if-contains .came) [
-      then-contains w ↦ first-in urgent lev (c .args .set) (c .loop-i .i) (c .loop-i .best) (c .if-contains .best) (c .loop-i .inv) (sym (w .if-contains .ensures tt)) (w .best-is ∙ w .better-best .ensures)
-    | else-contains w ↦ w .best-is ∙ first-out urgent lev (c .args .set) (c .loop-i .i) (c .loop-i .best) (c .loop-i .inv) (sym (w .if-contains .ensures tt))
+      | then-contains w ↦ first-in urgent lev (c .args .set) (c .loop-i .i) (c .loop-i .best) (c .if-contains .best) (c .loop-i .inv) (sym (w .if-contains .ensures tt)) (w .best-is ∙ w .better-best .ensures)
+      | else-contains w ↦ w .best-is ∙ first-out urgent lev (c .args .set) (c .loop-i .i) (c .loop-i .best) (c .loop-i .inv) (sym (w .if-contains .ensures tt))
     ]

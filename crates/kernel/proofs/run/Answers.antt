@@ -26,8 +26,7 @@ loop-i-again g c =
     let log = c .loop-i .log in
     let i = c .loop-i .i in
     let e : LogEntry (g .U .Denot) = record { call = getD log i (c .index-log-i .result) .call; reply = c .make-reply .result; running = c .running-running .result } in
-    let more : take (i + 1) (set log i e) ≡ take i log ++ (e ∷ []) = ap (λ n. take n (set log i e)) (add-one i) ∙ take-suc-set log i e (omega arith) in
-    (
+    let more : take (i + 1) (set log i e) ≡ take i log ++ (e ∷ []) = ap (λ n. take n (set log i e)) (add-one i) ∙ take-suc-set log i e (omega arith) in (
       subst (λ es. Run urgent (c .open-kernel .result .rows .now) es (state-of (c .make-reply .last .self))) (sym more) (run-call urgent (c .loop-i .inv .0) e (c .make-reply .ensures .made) (c .running-running .ensures)),
       map-set-same (λ e. e .call) log i e (c .index-log-i .result) refl ∙ c .loop-i .inv .1,
       c .make-reply .ensures .named ∙ c .loop-i .inv .2,

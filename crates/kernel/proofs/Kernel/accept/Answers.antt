@@ -12,7 +12,7 @@ use Rattle.kernel.proofs.Kernel.accept.Needs as need
 
 pub returns : need.returns
 returns g c =
-    let s = c .settle-changed .ensures in
+    let s = c .settle-changed .ensures (c .pre) in
     let w = waits-of (c .args .self .now .table) in
     let x = waits-of (c .args .next) in
     record {

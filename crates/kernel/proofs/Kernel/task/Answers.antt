@@ -32,7 +32,7 @@ returns g c =
     let found = task-found (k .waits) (c .args .t) fine in
     let k₁ : State (g .U .Denot) = record { waits = k .waits; rows = set (k .rows) (c .args .t) (record { base = c .args .v; level = c .args .v }) } in
     let start : state-of (c .put-row .last .self) ≡ k₁ =
-        ap (λ t. record { waits = waits-of t; rows = now (c .put-row .last .self .rows) }) (c .put-row .ensures .table) ∙ ap (λ rows. record { waits = k .waits; rows = rows }) (c .put-row .ensures .rows) in
+    ap (λ t. record { waits = waits-of t; rows = now (c .put-row .last .self .rows) }) (c .put-row .ensures .table) ∙ ap (λ rows. record { waits = k .waits; rows = rows }) (c .put-row .ensures .rows) in
     record {
       made =
           made-task urgent k (c .args .t) (c .accept-answer .result) k′ (c .if-self-lt64 .left) (c .args .v) fine (found .0) (found .1)

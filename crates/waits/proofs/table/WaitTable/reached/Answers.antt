@@ -24,7 +24,7 @@ seen-is c = with-or (c .loop-j .seen) (c .in-Some .j) (c .with-seen .result) (c 
 pub loop-j-less : need.loop-j-less
 loop-j-less c =
     let more : c .loop-j .seen < bitOr (c .loop-j .seen) (2 ^ c .in-Some .j) =
-        scan-grows (c .in-Some .j) (c .awaited .result) (c .loop-j .inv) (c .in-Some .ensures tt .0 .member) (c .awaited .ok) (λ j h. subst (λ m. Has m j) (c .awaited .ensures) h) (λ j h. subst (λ m. Has m j) (sym (c .awaited .ensures)) h) in
+    scan-grows (c .in-Some .j) (c .awaited .result) (c .loop-j .inv) (c .in-Some .ensures tt .0 .member) (c .awaited .ok) (λ j h. subst (λ m. Has m j) (c .awaited .ensures) h) (λ j h. subst (λ m. Has m j) (sym (c .awaited .ensures)) h) in
     omega (arith, more, seen-is c, c .with-seen .ok)
 
 pub loop-j-again : need.loop-j-again

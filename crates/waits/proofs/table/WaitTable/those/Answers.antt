@@ -21,8 +21,8 @@ loop-i-again c =
     let p = passes (waits-of (c .args .self .now)) (c .args .test) in
     let n = c .loop-i .i in
     elim (c .if-passes .came) [
-      then-passes w ↦
+      | then-passes w ↦
           w .set-is ∙ with-or (c .loop-i .set) n (w .with-set .result) (set< n (c .loop-i .set) p (c .loop-i-test .taken) (c .loop-i .inv)) (w .with-set .ok) (w .with-set .ensures) (c .loop-i-test .taken)
           ∙ those-in p n (c .loop-i .inv) (sym (w .if-passes .ensures tt))
-    | else-passes w ↦ w .set-is ∙ those-out p n (c .loop-i .inv) (sym (w .if-passes .ensures tt))
+      | else-passes w ↦ w .set-is ∙ those-out p n (c .loop-i .inv) (sym (w .if-passes .ensures tt))
     ]
