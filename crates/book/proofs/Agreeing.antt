@@ -1,4 +1,4 @@
--- A kernel whose calls are each made as their contract says agrees with the book over every run. Assumes nothing.
+-- A kernel whose calls are each made as their contract says agrees with the book over every run.
 use mathlib.Core.Path.{_≡_, refl, sym, subst, _∙_, ap, fun-ext}
 use mathlib.Core.Bool.{Bool, true, false, not, _&&_}
 use mathlib.Core.List.{List, [], _∷_, _++_}

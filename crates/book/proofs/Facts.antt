@@ -1,4 +1,4 @@
--- Every call keeps the facts, so the book after any list of calls has them. Assumes nothing.
+-- Every call keeps the facts, so the book after any list of calls has them.
 use mathlib.Core.Path.{_≡_, refl, subst}
 use mathlib.Core.Bool.{Bool, true, false, cond, not}
 use mathlib.Core.List.{List, [], _∷_, _++_}
@@ -40,12 +40,12 @@ clear ((k, x) ∷ xs) e = go x e (clear xs)
     go true e rest = absurd (subst (λ o. T (isSome o)) e tt)
     go false e rest = (λ t. t, rest e)
 
-clear-parts : (xs ys : List (Refusal × Bool)) → Clear (xs ++ ys) → Clear xs × Clear ys
+pub clear-parts : (xs ys : List (Refusal × Bool)) → Clear (xs ++ ys) → Clear xs × Clear ys
 clear-parts [] ys k = (tt, k)
 clear-parts ((n, x) ∷ xs) ys (h, k) = let (l, r) = clear-parts xs ys k in ((h, l), r)
 
 -- ---- what each condition says where it does not hold
-not-head : (p : Thing → Bool) (x : Thing) (xs : List Thing) → (T (some p (x ∷ xs)) → ⊥) → T (p x) → ⊥
+pub not-head : (p : Thing → Bool) (x : Thing) (xs : List Thing) → (T (some p (x ∷ xs)) → ⊥) → T (p x) → ⊥
 not-head p x xs h t = h (or-left (p x) (some p xs) t)
 
 below-64 : (x : Thing) (xs : List Thing) → (T (some (λ x. ltb 63 (number x)) (x ∷ xs)) → ⊥) → number x < 64

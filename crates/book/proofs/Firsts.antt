@@ -1,4 +1,4 @@
--- The first of a set is what its name says, and the running task is the first of the ready ones. Assumes nothing.
+-- The first of a set is what its name says, and the running task is the first of the ready ones.
 use mathlib.Core.Path.{_≡_, refl, sym, subst, _∙_, ap}
 use mathlib.Core.Bool.{Bool, true, false, cond}
 use mathlib.Core.Logic.{⊎-elim}

@@ -1,4 +1,4 @@
--- The laws of the book, after every list of calls and for every order. Assumes nothing.
+-- The laws of the book, after every list of calls and for every order.
 use mathlib.Core.Path.{_≡_, refl, sym, subst, ap}
 use mathlib.Core.Bool.{Bool, true, false, not, _&&_}
 use mathlib.Core.Logic.{_↔_}
@@ -30,6 +30,7 @@ use Rattle.book.proofs.Levels.{one-most, levels-local, local-level, kept}
 use Rattle.book.proofs.Leveling.{levelled}
 use Rattle.book.proofs.Firsts.{running-first, running-most}
 use Rattle.book.proofs.Facts.{facts-step, facts-after}
+use Rattle.book.proofs.Bases.{bases-after}
 use Rattle.book.proofs.Refusing.{refused, ring-refused, no-ring-refused}
 
 -- the tasks that waited before and are ready after
@@ -70,9 +71,10 @@ module _ {U : Type 0} (urgent : U → U → Bool) (order : Order (λ u v. T (urg
       test : ℕ → Bool
       test i = isSome (w .tasks i) && isSome (x .waits .tasks i) && differs i
 
-  at-each-point : (b : Book U) → Facts (b .waits) → AtEachPoint urgent b
-  at-each-point b f = record {
+  at-each-point : (b : Book U) → Facts (b .waits) → ((t : ℕ) → Present (b .waits) t ↔ T (isSome (b .base t))) → AtEachPoint urgent b
+  at-each-point b f bases = record {
     facts = f;
+    bases = bases;
     levels = levelled urgent order b (f .sound);
     local = levels-local (order-above urgent order) (Present (b .waits)) (inside (b .waits) (f .sound)) (level urgent b) (levelled urgent order b (f .sound));
     only = λ lev rule t p.
@@ -128,4 +130,4 @@ module _ {U : Type 0} (urgent : U → U → Bool) (order : Order (λ u v. T (urg
 
 pub lawful : {U : Type 0} (urgent : U → U → Bool) → Order (λ u v. T (urgent u v)) → Lawful urgent
 lawful urgent order n cs =
-    (at-each-point urgent order (book-after urgent n cs) (facts-after urgent n cs), at-each-call urgent order n (book-after urgent n cs) (facts-after urgent n cs))
+    (at-each-point urgent order (book-after urgent n cs) (facts-after urgent n cs) (bases-after urgent n cs), at-each-call urgent order n (book-after urgent n cs) (facts-after urgent n cs))

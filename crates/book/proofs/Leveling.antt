@@ -1,4 +1,4 @@
--- The level that the book computes is the chain rule's. Assumes nothing.
+-- The level that the book computes is the chain rule's.
 use mathlib.Core.Path.{_≡_, refl, sym, subst, _∙_}
 use mathlib.Core.Bool.{Bool, true, false}
 use mathlib.Core.Logic.{_⊎_, inl, inr, ⊎-elim}

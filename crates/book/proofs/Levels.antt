@@ -1,4 +1,4 @@
--- Levels and the local rule over any order and any finite relation with no ring, and what a change leaves. Assumes nothing.
+-- Levels and the local rule over any order and any finite relation with no ring, and what a change leaves.
 use mathlib.Core.Path.{_≡_, sym, subst, _∙_, ap}
 use mathlib.Core.Logic.{inl, inr, ⊎-elim}
 use mathlib.Core.WellFounded.{Acc, Acc·intro}

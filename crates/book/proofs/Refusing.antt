@@ -1,4 +1,4 @@
--- The refusal that a call is given is the first that applies, and the ring's is given just where the step would leave a ring. Assumes nothing.
+-- The refusal that a call is given is the first that applies, and the ring's is given just where the step would leave a ring.
 use mathlib.Core.Path.{_≡_, refl, sym, subst, _∙_, ap}
 use mathlib.Core.Bool.{Bool, true, false, cond, _&&_}
 use mathlib.Core.List.{List, [], _∷_, _++_}

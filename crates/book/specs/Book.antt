@@ -1,4 +1,4 @@
--- The plain book: what is present and each task's base; levels, the first of a set, the running task. Assumes nothing.
+-- The plain book: what is present and each task's base; levels, the first of a set, the running task.
 use mathlib.Core.Bool.{Bool, true, false, cond}
 use Prim.Native.Nat.{ℕ, zero, suc}
 use Rattle.std.specs.declared.option.Option.{Option}
@@ -9,9 +9,9 @@ use Rattle.waits.specs.declared.parts.Wait.the-variants.{Ready}
 use Rattle.waits.specs.Waits.{Waits, nothing, doing}
 use Rattle.waits.specs.Reach.{leading}
 
+-- what is present and who waits for whom, and the base of each present task
 pub record Book (U : Type 0) : Type 0 where
   pub waits : Waits
-  -- the base of each present task
   pub base : ℕ → Option U
 
 -- the book begins empty
@@ -33,6 +33,7 @@ module _ {U : Type 0} (urgent : U → U → Bool) where
   better lev None i = Some i
   better lev (Some k) i = cond (above urgent (lev k) (lev i)) (Some k) (Some i)
 
+  -- the best of the members of m below n
   unfoldable pub first-below : (ℕ → Option U) → ℕ → ℕ → Option ℕ
   first-below lev zero m = None
   first-below lev (suc n) m = elim (has m n) [ true ↦ better lev (first-below lev n m) n | false ↦ first-below lev n m ]

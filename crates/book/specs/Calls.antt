@@ -1,4 +1,4 @@
--- What each call does in the book, and when it is refused. Assumes nothing.
+-- What each call does in the book, and when it is refused.
 use mathlib.Core.Bool.{Bool, true, false, not, _||_}
 use mathlib.Core.List.{List, [], _∷_, _++_}
 use Prim.Native.Nat.{ℕ}
@@ -21,11 +21,13 @@ pub data Thing : Type 0 where
   semaphore : ℕ → Thing
   condition : ℕ → Thing
 
+-- its number
 abbrev pub number : Thing → ℕ
 number (task t) = t
 number (semaphore s) = s
 number (condition c) = c
 
+-- it is present
 abbrev pub there : Waits → Thing → Bool
 there w (task t) = isSome (w .tasks t)
 there w (semaphore s) = isSome (w .semaphores s)

@@ -1,4 +1,4 @@
--- A kernel by what its table and rows hold; what a call does to it; a run of calls. Assumes nothing.
+-- A kernel by what its table and rows hold; what a call does to it; a run of calls.
 use mathlib.Core.Path.{_≡_}
 use mathlib.Core.Bool.{Bool, true, false}
 use mathlib.Core.List.{List, [], _∷_, _++_, map}
@@ -21,6 +21,7 @@ use Rattle.book.specs.declared.refusal.Refusal.{Refusal}
 use Rattle.book.specs.Book.{Book, level, first, running}
 use Rattle.book.specs.Runs.{Reply, step-by, step, book-after}
 
+-- what a kernel's table says, and its rows
 pub record State (U : Type 0) : Type 0 where
   pub waits : Waits
   pub rows : List (Row U)

@@ -1,10 +1,11 @@
--- What is proved of the book, whatever the calls and the order. Assumes nothing.
+-- What is proved of the book, whatever the calls and the order.
 use mathlib.Core.Path.{_≡_}
 use mathlib.Core.Bool.{Bool, true, false, _&&_, _||_}
 use mathlib.Core.List.{List, [], _∷_}
 use mathlib.Core.Logic.{_↔_}
 use Prim.Native.Nat.{ℕ, _<_}
 use lib.Dec.{T, eqb}
+use Rattle.std.specs.Options.{isSome}
 use Rattle.std.specs.declared.option.Option.{Option}
 use Rattle.std.specs.declared.option.Option.the-variants.{Some, None}
 use Rattle.std.specs.declared.result.Result.the-variants.{Ok, Err}
@@ -33,6 +34,8 @@ module _ {U : Type 0} (urgent : U → U → Bool) where
   pub record AtEachPoint (b : Book U) : Type 0 where
     -- who waits, holds or helps is present, and so on; there is no ring
     pub facts : Facts (b .waits)
+    -- exactly the present tasks have a base
+    pub bases : (t : ℕ) → Present (b .waits) t ↔ T (isSome (b .base t))
     -- a present task's level is the most urgent base among it and the tasks with a chain to it
     pub levels : (t : ℕ) → Present (b .waits) t → IsLevel (Above urgent) (Awaits (b .waits)) (b .base) t (level urgent b t)
     -- these levels obey the local rule

@@ -1,4 +1,4 @@
--- Levels, the local rule and the first of a set, as relations over any order. Assumes nothing.
+-- Levels, the local rule and the first of a set, as relations over any order.
 use mathlib.Core.Path.{_≡_}
 use mathlib.Core.Logic.{_⊎_}
 use Prim.Native.Nat.{ℕ, _<_}

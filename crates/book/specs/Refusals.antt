@@ -1,8 +1,9 @@
--- The numbers of the refusals. Assumes nothing.
+-- The numbers of the refusals.
 use Prim.Native.Nat.{ℕ}
 use Rattle.book.specs.declared.refusal.Refusal.{Refusal}
 use Rattle.book.specs.declared.refusal.Refusal.the-variants.{TooLarge, ShortBuffer, FewRows, NoOrder, LongLine, NoForm, UnknownCall, WrongArguments, OutOfRange, Over63, NotDeclared, AlreadyThere, CallerWaits, NotWaiting, NotHolder, HoldsIt, HeldByOther, HoldsFurther, InUse, HelperAsItIs, WouldRing}
 
+-- the number by which a refusal is known
 abbrev pub number-of : Refusal → ℕ
 number-of TooLarge = 1
 number-of ShortBuffer = 2

@@ -1,4 +1,4 @@
--- What a call answers, and the book after a list of calls. Assumes nothing.
+-- What a call answers, and the book after a list of calls.
 use mathlib.Core.Bool.{Bool, true, false, cond, not, _&&_}
 use mathlib.Core.List.{List, [], _∷_, _++_}
 use Prim.Native.Nat.{ℕ}
@@ -47,10 +47,12 @@ module _ {U : Type 0} (urgent : U → U → Bool) where
   abbrev pub all-refusals : ℕ → Book U → Call U → Book U → List (Refusal × Bool)
   all-refusals n b c x = refusals (b .waits) n c ++ ((WouldRing, ring (x .waits)) ∷ [])
 
+  -- what a call answers whose step leaves x
   abbrev pub answer : (ℕ → Option U) → Book U → Call U → Book U → Option Refusal → Reply
   answer lev b c x (Some k) = Err k
   answer lev b c x None = Ok (left-waiting (x .waits) c, woken (b .waits) (x .waits), changed lev (b .waits) x)
 
+  -- a refused call leaves the book as it was
   abbrev pub kept-or : Book U → Book U → Option Refusal → Book U
   kept-or b x (Some k) = b
   kept-or b x None = x
@@ -66,10 +68,11 @@ module _ {U : Type 0} (urgent : U → U → Bool) where
   abbrev pub step : ℕ → Book U → Call U → Book U × Reply
   step n b c = step-by (level urgent b) n b c
 
+  -- the book after the calls, from b on
   unfoldable pub book-from : ℕ → Book U → List (Call U) → Book U
   book-from n b [] = b
   book-from n b (c ∷ cs) = book-from n (step n b c .0) cs
 
-  -- the book after the calls
+  -- the book after the calls, from the empty one on
   abbrev pub book-after : ℕ → List (Call U) → Book U
   book-after n cs = book-from n empty cs

@@ -1,4 +1,4 @@
--- The loops over the members of a set and over the rows: the most urgent base, the first of a set. Assumes nothing.
+-- The loops over the members of a set and over the rows: the most urgent base, the first of a set.
 use mathlib.Core.Path.{_≡_, refl, sym, subst, _∙_, ap}
 use mathlib.Core.Bool.{Bool, true, false, not, _&&_}
 use Prim.Native.Nat.{ℕ, zero, suc, _+_, _-_, _<_, _≤_}

@@ -1,4 +1,4 @@
--- Rows by number: reads, writes, and what lies past the end. Assumes nothing.
+-- Rows by number: reads, writes, and what lies past the end.
 use mathlib.Core.Path.{_≡_, refl, sym, _∙_, ap}
 use mathlib.Core.List.{List, [], _∷_}
 use Prim.Native.Nat.{ℕ, zero, suc, _<_, _≤_}

@@ -1,4 +1,4 @@
--- The loop that writes the levels into the rows, task by task. Assumes nothing.
+-- The loop that writes the levels into the rows, task by task.
 use mathlib.Core.Path.{_≡_, refl, sym, subst, _∙_, ap, fun-ext}
 use mathlib.Core.Bool.{Bool, true, false, cond, not, _&&_}
 use mathlib.Core.List.{List}

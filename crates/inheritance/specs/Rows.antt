@@ -1,4 +1,4 @@
--- What task rows hold beside a wait table. Assumes nothing.
+-- What task rows hold beside a wait table.
 use mathlib.Core.Path.{_≡_}
 use mathlib.Core.Bool.{Bool, not, _&&_}
 use mathlib.Core.List.{List}

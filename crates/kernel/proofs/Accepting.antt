@@ -1,4 +1,4 @@
--- The woken and the changed set, as the code puts them together. Assumes nothing.
+-- The woken and the changed set, as the code puts them together.
 use mathlib.Core.Path.{_≡_, refl, sym, _∙_, ap}
 use mathlib.Core.Bool.{Bool, true, false, not, _&&_}
 use Prim.Native.Nat.{ℕ, _<_}

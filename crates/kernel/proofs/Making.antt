@@ -1,4 +1,4 @@
--- One argument for every call: refused, it leaves all as it was; accepted, it does the book's step. Assumes nothing.
+-- One argument for every call: refused, it leaves all as it was; accepted, it does the book's step.
 use mathlib.Core.Path.{_≡_, refl, sym, subst, _∙_, ap, fun-ext}
 use mathlib.Core.Bool.{Bool, true, false, cond, not, _&&_}
 use mathlib.Core.List.{List}
@@ -30,15 +30,10 @@ use Rattle.book.specs.Book.{Book, level, first}
 use Rattle.book.specs.Calls.{refusals, waits-after, base-after, after}
 use Rattle.book.specs.Runs.{earliest, woken, changed, left-waiting, all-refusals, answer, kept-or, step-by}
 use Rattle.book.specs.Kernel.{State, row-at, if-present, book-of, levels-of, Kept, Right, Made}
-use Rattle.steps.specs.Judged.{Asked, refusal}
+use Rattle.steps.specs.Judged.{nobody, refusal}
+use Rattle.steps.proofs.Judging.{task-found, base-found}
 use Rattle.inheritance.proofs.Rows.{row-there, row-set-same, row-set-other}
-use Rattle.kernel.specs.Held.{Accepted}
-
--- a call without its value
-abbrev pub asked : {U : Type 0} → Call U → Asked
-asked (Task t v) = Task t tt
-asked (Untask t) = Untask t
-asked (Base t v) = Base t tt
+use Rattle.kernel.specs.Inner.{asked, Within, Noted, Accepted}
 
 few : (n : ℕ) → n < 64 → ltb n 64 ≡ true
 few n l = grind (arith, tells)
@@ -219,3 +214,24 @@ module _ {U : Type 0} (urgent : U → U → Bool) (k : State U) (t : ℕ) (r : B
             ap (base-at (k .waits) rows) e ∙ present (k .waits .tasks t) there (mapped (λ r. r .base) (row-at rows t)) ∙ ap (mapped (λ r. r .base)) here
             ∙ sym (ap (put (book-of k .base) t (Some v)) e ∙ put-same (book-of k .base) t (Some v))
         bases i (no ne) = ap (λ o. if-present (k .waits .tasks i) (mapped (λ r. r .base) o)) (away i ne) ∙ sym (put-other (book-of k .base) t (Some v) i ne)
+
+-- ---- any call
+module _ {U : Type 0} (urgent : U → U → Bool) (k : State U) where
+  -- an accepted call gives a base to one of the first 64 rows
+  pub within : (c : Call U) (n : ℕ) → 64 ≤ n → refusal (first urgent (levels-of k)) (k .waits) (asked c) ≡ None → Within n c
+  within (Task t v) n l fine = omega (arith, task-found (k .waits) t fine .0)
+  within (Untask t) n l fine = tt
+  within (Base t v) n l fine = omega (arith, base-found (k .waits) t fine .0)
+
+  pub noted-size : (c : Call U) (rows : List (Row U)) → Noted (k .rows) c rows → length rows ≡ length (k .rows)
+  noted-size (Task t v) rows e = ap length e ∙ length-set (k .rows) t _
+  noted-size (Untask t) rows e = ap length e
+  noted-size (Base t v) rows e = ap length (e (record { base = v; level = v })) ∙ length-set (k .rows) t _
+
+  pub made : (c : Call U) (rows : List (Row U)) (r : Bool × ℕ × ℕ) (k′ : State U) → 64 ≤ length (k .rows) → refusal (first urgent (levels-of k)) (k .waits) (asked c) ≡ None → Noted (k .rows) c rows
+      → Accepted urgent (record { waits = k .waits; rows = rows }) (waits-after (first urgent (levels-of k)) (k .waits) (asked c)) false r k′ → Made urgent k c (Ok r) k′
+  made (Task t v) rows r k′ l fine e a =
+      let found = task-found (k .waits) t fine in
+      made-task urgent k t r k′ l v fine (found .0) (found .1) (subst (λ rows. Accepted urgent (record { waits = k .waits; rows = rows }) (with-task (k .waits) t (Some Ready)) false r k′) e a)
+  made (Untask t) rows r k′ l fine e a = made-untask urgent k t r k′ l fine (subst (λ rows. Accepted urgent (record { waits = k .waits; rows = rows }) (with-task (k .waits) t None) false r k′) e a)
+  made (Base t v) rows r k′ l fine e a = let found = base-found (k .waits) t fine in made-base urgent k t r k′ l v rows e fine (found .0) (found .1) a

@@ -1,6 +1,5 @@
--- What a kernel holds, and what it answers. Assumes nothing.
-use mathlib.Core.Path.{_≡_}
-use mathlib.Core.Bool.{Bool, cond}
+-- What a kernel holds, and what it answers.
+use mathlib.Core.Bool.{cond}
 use Prim.Native.Nat.{ℕ}
 use denote.Ref.{now}
 use lib.Dec.{ltb}
@@ -8,12 +7,10 @@ use Rattle.std.specs.declared.option.Option.{Option}
 use Rattle.std.specs.declared.option.Option.the-variants.{Some, None}
 use Rattle.std.specs.declared.result.Result.{Result}
 use Rattle.std.specs.declared.result.Result.the-variants.{Ok, Err}
-use Rattle.waits.specs.Waits.{Waits}
 use Rattle.waits.specs.Table.{waits-of}
 use Rattle.book.specs.declared.refusal.Refusal.{Refusal}
 use Rattle.book.specs.declared.refusal.Refusal.the-variants.{Over63, NotDeclared}
-use Rattle.book.specs.Runs.{woken, changed}
-use Rattle.book.specs.Kernel.{State, book-of, levels-of, Kept, Right}
+use Rattle.book.specs.Kernel.{State}
 use Rattle.kernel.specs.declared.Kernel.{Kernel}
 
 -- the state of a kernel: the waits of its table, and its rows
@@ -27,11 +24,3 @@ told (Some x) = Ok x
 -- the answer to a question about number t: refused where t is over 63 or there is no such thing
 abbrev pub answered : {A : Type 0} → ℕ → Option A → Result A Refusal
 answered t x = cond (ltb 63 t) (Err Over63) (told x)
-
--- from k on, a call is accepted whose step leaves the waits x
-pub record Accepted {U : Type 0} (urgent : U → U → Bool) (k : State U) (x : Waits) (waiting : Bool) (r : Bool × ℕ × ℕ) (k′ : State U) : Type 0 where
-  pub waits : k′ .waits ≡ x
-  pub book : book-of k′ ≡ book-of (record { waits = x; rows = k .rows })
-  pub right : Right urgent k′
-  pub kept : Kept (record { waits = x; rows = k .rows }) k′
-  pub answer : r ≡ (waiting, woken (k .waits) x, changed urgent (levels-of k) (k .waits) (book-of k′))

@@ -8,16 +8,18 @@ ghost use Rattle.waits.specs.Table.{waits-of};
 ghost use Rattle.book.specs.declared.row.Row.{Row};
 ghost use Rattle.book.specs.declared.call.Call.the-variants.{Task, Untask, Base};
 ghost use Rattle.book.specs.declared.refusal.Refusal.the-variants.{FewRows};
+ghost use Rattle.book.specs.Book.{first};
 ghost use Rattle.book.specs.Kernel.{book-of, levels-of, if-present, opened, running-of, calls, Made, Run};
 ghost use Rattle.book.specs.Laws.{Lawful};
-ghost use Rattle.kernel.specs.Held.{state-of, answered, Accepted};
+ghost use Rattle.steps.specs.Judged.{Judged};
+ghost use Rattle.kernel.specs.Held.{state-of, answered};
+ghost use Rattle.kernel.specs.Inner.{asked, Within, Noted, Accepted};
 use book::Call;
 use book::LogEntry;
 use book::Refusal;
 use book::Reply;
 use book::Row;
 use inheritance::base_in;
-use inheritance::first;
 use inheritance::level_in;
 use inheritance::settle;
 use tasksets::TaskSet;
@@ -77,45 +79,29 @@ impl<'a, U: Urgency> Kernel<'a, U> {
         (waiting, woken, changed)
     }
 
-    /// `task t v`: t becomes present and ready, with base v.
-    pub fn task(&mut self, t: u32, v: U) -> Reply
-        ensures made { λ r. ⌜ Made urgent (state-of (now (self .entry))) (Task t v) r (state-of (now (self .exit))) ⌝ }
+    // Writes the base that a call gives into its row; the level of a new task is worked out with the others.
+    fn note_base(&mut self, call: Call<U>)
+        requires { ⌜ Within (length (now (now self .rows))) call ⌝ }
+        ensures noted { λ _. ⌜ Noted (now (now (self .entry) .rows)) call (now (now (self .exit) .rows)) ⌝ }
+        ensures table { λ _. ⌜ now (self .exit) .table ≡ now (self .entry) .table ⌝ }
         ensures named { λ _. ⌜ name (now (self .exit) .rows) ≡ name (now (self .entry) .rows) ⌝ }
     {
-        if self.rows.len() < 64 {
-            return Err(Refusal::FewRows);
+        match call {
+            Call::Task(t, v) => self.put_row(t, Row { base: v, level: v }),
+            Call::Base(t, v) => self.put_base(t, v),
+            Call::Untask(_) => {}
         }
-        let next = steps::task(&self.table, t)?;
-        self.put_row(t, Row { base: v, level: v });
-        let answer = self.accept(next, false);
-        Ok(answer)
     }
 
-    /// `untask t`: t becomes absent; its row keeps what it holds.
-    pub fn untask(&mut self, t: u32) -> Reply
-        ensures made { λ r. ⌜ Made urgent (state-of (now (self .entry))) (Untask t) r (state-of (now (self .exit))) ⌝ }
-        ensures named { λ _. ⌜ name (now (self .exit) .rows) ≡ name (now (self .entry) .rows) ⌝ }
+    // The table after a call's step, by the rule of the call.
+    fn next(&self, call: Call<U>) -> Result<WaitTable, Refusal>
+        ensures { λ r. ⌜ Judged (first urgent (levels-of (state-of (now (self .entry))))) (waits-of (now (self .entry) .table)) (asked call) r ⌝ }
     {
-        if self.rows.len() < 64 {
-            return Err(Refusal::FewRows);
+        match call {
+            Call::Task(t, _) => steps::task(&self.table, t),
+            Call::Untask(t) => steps::untask(&self.table, t),
+            Call::Base(t, _) => steps::base(&self.table, t),
         }
-        let next = steps::untask(&self.table, t)?;
-        let answer = self.accept(next, false);
-        Ok(answer)
-    }
-
-    /// `base t v`: the base of t is v from now on.
-    pub fn base(&mut self, t: u32, v: U) -> Reply
-        ensures made { λ r. ⌜ Made urgent (state-of (now (self .entry))) (Base t v) r (state-of (now (self .exit))) ⌝ }
-        ensures named { λ _. ⌜ name (now (self .exit) .rows) ≡ name (now (self .entry) .rows) ⌝ }
-    {
-        if self.rows.len() < 64 {
-            return Err(Refusal::FewRows);
-        }
-        let next = steps::base(&self.table, t)?;
-        self.put_base(t, v);
-        let answer = self.accept(next, false);
-        Ok(answer)
     }
 
     /// Makes any call.
@@ -123,11 +109,37 @@ impl<'a, U: Urgency> Kernel<'a, U> {
         ensures made { λ r. ⌜ Made urgent (state-of (now (self .entry))) call r (state-of (now (self .exit))) ⌝ }
         ensures named { λ _. ⌜ name (now (self .exit) .rows) ≡ name (now (self .entry) .rows) ⌝ }
     {
-        match call {
-            Call::Task(t, v) => self.task(t, v),
-            Call::Untask(t) => self.untask(t),
-            Call::Base(t, v) => self.base(t, v),
+        if self.rows.len() < 64 {
+            return Err(Refusal::FewRows);
         }
+        let next = self.next(call)?;
+        self.note_base(call);
+        let answer = self.accept(next, false);
+        Ok(answer)
+    }
+
+    /// `task t v`: t becomes present and ready, with base v.
+    pub fn task(&mut self, t: u32, v: U) -> Reply
+        ensures made { λ r. ⌜ Made urgent (state-of (now (self .entry))) (Task t v) r (state-of (now (self .exit))) ⌝ }
+        ensures named { λ _. ⌜ name (now (self .exit) .rows) ≡ name (now (self .entry) .rows) ⌝ }
+    {
+        self.make(Call::Task(t, v))
+    }
+
+    /// `untask t`: t becomes absent; its row keeps what it holds.
+    pub fn untask(&mut self, t: u32) -> Reply
+        ensures made { λ r. ⌜ Made urgent (state-of (now (self .entry))) (Untask t) r (state-of (now (self .exit))) ⌝ }
+        ensures named { λ _. ⌜ name (now (self .exit) .rows) ≡ name (now (self .entry) .rows) ⌝ }
+    {
+        self.make(Call::Untask(t))
+    }
+
+    /// `base t v`: the base of t is v from now on.
+    pub fn base(&mut self, t: u32, v: U) -> Reply
+        ensures made { λ r. ⌜ Made urgent (state-of (now (self .entry))) (Base t v) r (state-of (now (self .exit))) ⌝ }
+        ensures named { λ _. ⌜ name (now (self .exit) .rows) ≡ name (now (self .entry) .rows) ⌝ }
+    {
+        self.make(Call::Base(t, v))
     }
 
     /// The base of task t.
@@ -177,7 +189,7 @@ impl<'a, U: Urgency> Kernel<'a, U> {
         ensures { λ r. ⌜ r ≡ running-of urgent (state-of (now (self .entry))) ⌝ }
     {
         let ready = self.table.those(Test::Doing(Wait::Ready));
-        first(self.rows, ready)
+        inheritance::first(self.rows, ready)
     }
 }
 

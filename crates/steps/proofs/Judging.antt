@@ -1,4 +1,4 @@
--- Which refusal comes first, call by call. Assumes nothing.
+-- Which refusal comes first, call by call.
 use mathlib.Core.Path.{_≡_, refl, sym, _∙_, ap}
 use mathlib.Core.Bool.{Bool, true, false, cond, not, _&&_, _||_}
 use Prim.Native.Nat.{ℕ, _<_, _≤_}

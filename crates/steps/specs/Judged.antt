@@ -1,4 +1,4 @@
--- What the rule of a call says of a wait table. Assumes nothing.
+-- What the rule of a call says of a wait table.
 use mathlib.Core.Path.{_≡_}
 use mathlib.Core.List.{[], _∷_, _++_}
 use Prim.Native.Nat.{ℕ}

@@ -1,4 +1,4 @@
--- Sets of numbers below 64 as the bits of a number: member k has the bit of value 2 ^ k. Assumes nothing.
+-- Sets of numbers below 64 as the bits of a number: member k has the bit of value 2 ^ k.
 use mathlib.Core.Path.{_≡_}
 use mathlib.Core.Bool.{Bool, true, false, cond}
 use Prim.Native.Nat.{ℕ, zero, suc, _+_, _/_, _%_, _^_, _<_}

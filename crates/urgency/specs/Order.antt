@@ -1,4 +1,4 @@
--- What an order of urgencies is, and the more urgent of two. Assumes nothing.
+-- What an order of urgencies is, and the more urgent of two.
 use mathlib.Core.Path.{_≡_}
 use mathlib.Core.Bool.{Bool, true, false, cond, not, _&&_}
 use mathlib.Core.Logic.{_⊎_}

@@ -1,4 +1,4 @@
--- The two orders there are. Assumes nothing.
+-- The two orders there are.
 use mathlib.Core.Bool.{Bool, cond}
 use lib.Dec.{leb, ltb, eqb}
 use Rattle.urgency.specs.declared.grade.Grade.{Grade}

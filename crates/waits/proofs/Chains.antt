@@ -1,4 +1,4 @@
--- Chains joined, ended, and carried from one relation to another. Assumes nothing.
+-- Chains joined, ended, and carried from one relation to another.
 use mathlib.Core.Path.{_≡_, refl, subst}
 use mathlib.Core.Logic.{_⊎_, inl, inr}
 use Prim.Native.Nat.{ℕ}

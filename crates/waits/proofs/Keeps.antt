@@ -1,4 +1,4 @@
--- Who awaits whom, and what a change of one task keeps of the facts. Assumes nothing.
+-- Who awaits whom, and what a change of one task keeps of the facts.
 use mathlib.Core.Path.{_≡_, refl, sym, subst, _∙_, ap}
 use mathlib.Core.Bool.{Bool, true, false, cond}
 use mathlib.Core.Logic.{_⊎_, inl, inr, ⊎-elim}

@@ -1,4 +1,4 @@
--- Loops that turn the tasks along chains from each task into the tasks with a chain to each. Assumes nothing.
+-- Loops that turn the tasks along chains from each task into the tasks with a chain to each.
 use mathlib.Core.Path.{_≡_, refl, sym, subst, _∙_, ap}
 use mathlib.Core.Bool.{Bool, true, false, not, _&&_, _||_}
 use mathlib.Core.List.{List}

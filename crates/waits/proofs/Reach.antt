@@ -1,4 +1,4 @@
--- `leading` has just the tasks with a chain, and `ring` says yes just where there is a ring. Assumes nothing.
+-- `leading` has just the tasks with a chain, and `ring` says yes just where there is a ring.
 use mathlib.Core.Path.{_≡_, refl, sym, subst, ap}
 use mathlib.Core.Bool.{Bool, true, false, not}
 use mathlib.Core.Logic.{_⊎_, inl, inr, ⊎-elim}

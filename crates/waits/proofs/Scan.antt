@@ -1,4 +1,4 @@
--- The worklist that finds the tasks along the chains from one task. Assumes nothing.
+-- The worklist that finds the tasks along the chains from one task.
 use mathlib.Core.Path.{_≡_, refl, subst, sym, ap, _∙_}
 use mathlib.Core.Logic.{_⊎_, inl, inr, ⊎-elim}
 use Prim.Native.Nat.{ℕ, _+_, _-_, _^_, _<_, _≤_, max}

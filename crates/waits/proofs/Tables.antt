@@ -1,4 +1,4 @@
--- What arrays of 64 places hold, by number: past the end nothing, and a write is a change at one number. Assumes nothing.
+-- What arrays of 64 places hold, by number: past the end nothing, and a write is a change at one number.
 use mathlib.Core.Path.{_≡_, refl, sym, subst, _∙_, ap, fun-ext}
 use mathlib.Core.Bool.{Bool, true, false, cond}
 use mathlib.Core.List.{List}

@@ -1,4 +1,4 @@
--- Tests as facts: what it is that a test says yes or no, alone or joined with another. Assumes nothing.
+-- Tests as facts: what it is that a test says yes or no, alone or joined with another.
 use mathlib.Core.Path.{_≡_, refl}
 use mathlib.Core.Bool.{Bool, true, false, not, _&&_, _||_}
 use mathlib.Core.Logic.{_⊎_, inl, inr}

@@ -1,4 +1,4 @@
--- Chains and rings of a relation between tasks. Assumes nothing.
+-- Chains and rings of a relation between tasks.
 use Prim.Native.Nat.{ℕ, _<_}
 
 -- a row of tasks, each awaiting the next; a task alone is a chain of no steps
@@ -10,6 +10,7 @@ pub data Chain (awaits : ℕ → ℕ → Type 0) : ℕ → ℕ → Type 0 where
 abbrev pub Ring : (ℕ → ℕ → Type 0) → ℕ → Type 0
 Ring awaits i = (j : ℕ) × awaits i j × Chain awaits j i
 
+-- there is no ring
 abbrev pub NoRing : (ℕ → ℕ → Type 0) → Type 0
 NoRing awaits = (i : ℕ) → Ring awaits i → ⊥
 

@@ -1,4 +1,4 @@
--- The facts that every kernel keeps. Assumes nothing.
+-- The facts that every kernel keeps.
 use mathlib.Core.Path.{_≡_}
 use Prim.Native.Nat.{ℕ, _<_}
 use lib.Dec.{T}
@@ -8,15 +8,19 @@ use Rattle.waits.specs.Chain.{NoRing}
 use Rattle.waits.specs.Waits.{Waits, wait-in, Awaits, does, held, held-by, helped-by, belongs}
 
 module _ (w : Waits) where
+  -- task t is present
   abbrev pub Present : ℕ → Type 0
   Present t = T (isSome (w .tasks t))
 
+  -- task t is present and ready
   abbrev pub IsReady : ℕ → Type 0
   IsReady t = T (does Ready (w .tasks t))
 
+  -- task t holds semaphore s
   abbrev pub Holds : ℕ → ℕ → Type 0
   Holds t s = T (held-by t (w .semaphores s))
 
+  -- task t helps condition c
   abbrev pub Helps : ℕ → ℕ → Type 0
   Helps t c = T (helped-by t (w .conditions c))
 
@@ -48,7 +52,7 @@ module _ (w : Waits) where
   abbrev pub RingFree : Type 0
   RingFree = NoRing (Awaits w)
 
-  -- all but the last; numbers are below 64
+  -- all of these but the last; and numbers are below 64
   pub record Sound : Type 0 where
     pub tasks< : (t : ℕ) → Present t → t < 64
     pub semaphores< : (s : ℕ) → T (isSome (w .semaphores s)) → s < 64
@@ -60,6 +64,7 @@ module _ (w : Waits) where
     pub held : HeldWhereAwaited
     pub bare : BareOnCondition
 
+  -- all of these
   pub record Facts : Type 0 where
     pub sound : Sound
     pub free : RingFree

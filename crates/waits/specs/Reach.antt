@@ -1,4 +1,4 @@
--- Chains and rings, computed. Assumes nothing.
+-- Chains and rings, computed.
 use mathlib.Core.Bool.{Bool, true, false, not, _||_}
 use Prim.Native.Nat.{ℕ, zero, suc, _^_}
 use lib.Dec.{eqb}

@@ -1,4 +1,4 @@
--- What a wait table holds. Assumes nothing.
+-- What a wait table holds.
 use Rattle.waits.specs.declared.table.WaitTable.{WaitTable}
 use Rattle.waits.specs.Waits.{Waits, waits}
 

@@ -1,4 +1,4 @@
--- What is present, and who awaits whom. Assumes nothing.
+-- What is present, and who awaits whom.
 use mathlib.Core.Path.{_≡_}
 use mathlib.Core.Bool.{Bool, true, false, cond, not, _&&_}
 use mathlib.Core.List.{List}
@@ -41,28 +41,33 @@ abbrev pub wait-in : Option Wait → Wait
 wait-in None = Ready
 wait-in (Some w) = w
 
+-- the holder of a semaphore, as a set
 abbrev pub holder-set : Option Holder → ℕ
 holder-set None = 0
 holder-set (Some Free) = 0
 holder-set (Some (HeldBy h)) = 2 ^ h
 
+-- the helpers of a condition
 abbrev pub helper-set : Option Condition → ℕ
 helper-set None = 0
 helper-set (Some c) = c .helpers
 
+-- whom a task awaits that does this: at a semaphore its holder, on a condition each of its helpers, and nobody when ready
 abbrev pub awaited-in : Waits → Wait → ℕ
 awaited-in w Ready = 0
 awaited-in w (AtSemaphore s) = holder-set (w .semaphores s)
 awaited-in w (OnCondition c) = helper-set (w .conditions c)
 
--- the set that i awaits: at a semaphore its holder, on a condition each of its helpers, and nobody when ready
+-- the set of the tasks that i awaits
 abbrev pub awaited : Waits → ℕ → ℕ
 awaited w i = awaited-in w (wait-in (w .tasks i))
 
+-- i awaits j
 abbrev pub Awaits : Waits → ℕ → ℕ → Type 0
 Awaits w i j = Has (awaited w i) j
 
 -- ---- tests
+-- two tasks do the same
 abbrev pub same-wait : Wait → Wait → Bool
 same-wait Ready Ready = true
 same-wait Ready (AtSemaphore s) = false
@@ -74,7 +79,7 @@ same-wait (OnCondition c) Ready = false
 same-wait (OnCondition c) (AtSemaphore s) = false
 same-wait (OnCondition c) (OnCondition z) = eqb c z
 
--- a present task does w
+-- a task is present and does w
 abbrev pub does : Wait → Option Wait → Bool
 does w None = false
 does w (Some v) = same-wait v w
