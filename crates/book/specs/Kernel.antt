@@ -1,6 +1,6 @@
 -- A kernel by what its table and rows hold; what a call does to it; a run of calls.
 use mathlib.Core.Path.{_≡_}
-use mathlib.Core.Bool.{Bool, true, false}
+use mathlib.Core.Bool.{Bool}
 use mathlib.Core.List.{List, [], _∷_, _++_, map}
 use Prim.Native.Nat.{ℕ, zero, suc}
 use lib.Dec.{T}
@@ -9,7 +9,7 @@ use Rattle.std.specs.Options.{mapped}
 use Rattle.std.specs.Results.{isOk}
 use Rattle.std.specs.declared.option.Option.{Option}
 use Rattle.std.specs.declared.option.Option.the-variants.{Some, None}
-use Rattle.std.specs.declared.result.Result.the-variants.{Ok, Err}
+use Rattle.std.specs.declared.result.Result.the-variants.{Err}
 use Rattle.waits.specs.declared.parts.Wait.{Wait}
 use Rattle.waits.specs.declared.parts.Wait.the-variants.{Ready}
 use Rattle.waits.specs.Waits.{Waits, nothing, doing}

@@ -1,18 +1,18 @@
 -- What is proved of the book, whatever the calls and the order.
 use mathlib.Core.Path.{_≡_}
-use mathlib.Core.Bool.{Bool, true, false, _&&_, _||_}
+use mathlib.Core.Bool.{Bool, false, _&&_, _||_}
 use mathlib.Core.List.{List, [], _∷_}
 use mathlib.Core.Logic.{_↔_}
 use Prim.Native.Nat.{ℕ, _<_}
 use lib.Dec.{T, eqb}
 use Rattle.std.specs.Options.{isSome}
 use Rattle.std.specs.declared.option.Option.{Option}
-use Rattle.std.specs.declared.option.Option.the-variants.{Some, None}
+use Rattle.std.specs.declared.option.Option.the-variants.{Some}
 use Rattle.std.specs.declared.result.Result.the-variants.{Ok, Err}
 use Rattle.urgency.specs.Order.{Above}
 use Rattle.tasksets.specs.Sets.{Has}
 use Rattle.waits.specs.Chain.{Chain, Ring, From}
-use Rattle.waits.specs.Waits.{Waits, awaited, Awaits}
+use Rattle.waits.specs.Waits.{awaited, Awaits}
 use Rattle.waits.specs.Facts.{Present, IsReady, Facts}
 use Rattle.book.specs.declared.call.Call.{Call}
 use Rattle.book.specs.declared.call.Call.the-variants.{Task, Untask, Base}

@@ -9,9 +9,9 @@ use native.Mathlib.Omega.{arith}
 use lib.Dec.{T, eqb, leb}
 use Rattle.std.proofs.shelf.Ways.{tells}
 use Rattle.std.specs.declared.option.Option.{Option}
-use Rattle.std.specs.declared.option.Option.the-variants.{Some, None}
+use Rattle.std.specs.declared.option.Option.the-variants.{None}
 use Rattle.urgency.specs.Order.{upper}
-use Rattle.tasksets.specs.Sets.{Has, has, Smallest}
+use Rattle.tasksets.specs.Sets.{has, Smallest}
 use Rattle.tasksets.proofs.Those.{T-has, has-T}
 use Rattle.waits.proofs.Tests.{true-of, false-of, and-left, and-right}
 use Rattle.book.specs.Book.{most-below, better, first-below}

@@ -6,16 +6,15 @@ use mathlib.Core.Logic.{_⊎_, inl, inr}
 use Prim.Native.Nat.{ℕ, zero, suc, _+_, _^_, _<_, _≤_}
 use native.Mathlib.Decide.{ℕ-discrete, decLt}
 use native.Mathlib.Omega.{arith}
-use lib.Bits.{bitOr}
 use lib.Dec.{T}
-use lib.ListN.{length, getD}
+use lib.ListN.{length}
 use lib.Pow.{pow-mono}
 use Rattle.std.specs.Options.{isSome, mapped}
 use Rattle.std.specs.declared.option.Option.{Option}
 use Rattle.std.specs.declared.option.Option.the-variants.{Some, None}
-use Rattle.urgency.specs.Order.{above, upper, same}
-use Rattle.tasksets.specs.Sets.{Has, has, those, those-below}
-use Rattle.tasksets.proofs.Those.{T-has, below-lt, those-start, those-in, those-out}
+use Rattle.urgency.specs.Order.{upper, same}
+use Rattle.tasksets.specs.Sets.{has, those-below}
+use Rattle.tasksets.proofs.Those.{T-has, below-lt, those-start}
 use Rattle.waits.specs.declared.parts.Wait.{Wait}
 use Rattle.waits.specs.declared.table.WaitTable.{WaitTable}
 use Rattle.waits.specs.Chain.{here}
@@ -26,9 +25,9 @@ use Rattle.waits.proofs.Tests.{true-of}
 use Rattle.waits.proofs.Reach.{leading-all}
 use Rattle.waits.proofs.Tables.{facts-of}
 use Rattle.book.specs.declared.row.Row.{Row}
-use Rattle.book.specs.Book.{Book, most-below, level}
+use Rattle.book.specs.Book.{most-below, level}
 use Rattle.book.specs.Kernel.{row-at, if-present}
-use Rattle.inheritance.specs.Rows.{both, held, row-levels, releveled, Settled}
+use Rattle.inheritance.specs.Rows.{held, row-levels, releveled, Settled}
 use Rattle.inheritance.proofs.Rows.{row-some}
 use Rattle.inheritance.proofs.Mosts.{most-same}
 

@@ -1,26 +1,24 @@
 -- One argument for every call: refused, it leaves all as it was; accepted, it does the book's step.
 use mathlib.Core.Path.{_≡_, refl, sym, subst, _∙_, ap, fun-ext}
-use mathlib.Core.Bool.{Bool, true, false, cond, not, _&&_}
+use mathlib.Core.Bool.{Bool, true, false, not, _&&_}
 use mathlib.Core.List.{List}
 use Prim.Native.Nat.{ℕ, _<_, _≤_}
 use native.Mathlib.Decide.{ℕ-discrete}
 use native.Mathlib.Omega.{arith}
-use lib.Dec.{T, eqb, ltb}
+use lib.Dec.{T, ltb}
 use lib.ListN.{length, getD, set, length-set}
-use Rattle.std.proofs.shelf.Tests.{eq-eqb, ne-eqb}
 use Rattle.std.proofs.shelf.Ways.{tells}
 use Rattle.std.specs.Options.{isSome, mapped}
 use Rattle.std.specs.declared.option.Option.{Option}
 use Rattle.std.specs.declared.option.Option.the-variants.{Some, None}
 use Rattle.std.specs.declared.result.Result.the-variants.{Ok, Err}
 use Rattle.urgency.specs.Order.{same}
-use Rattle.tasksets.specs.Sets.{those}
 use Rattle.tasksets.proofs.Those.{those-same}
 use Rattle.waits.specs.declared.parts.Wait.{Wait}
 use Rattle.waits.specs.declared.parts.Wait.the-variants.{Ready}
 use Rattle.waits.specs.Waits.{Waits, put, with-task}
 use Rattle.waits.specs.Facts.{Present}
-use Rattle.waits.proofs.Keeps.{put-at, put-same, put-other}
+use Rattle.waits.proofs.Keeps.{put-same, put-other}
 use Rattle.book.specs.declared.row.Row.{Row}
 use Rattle.book.specs.declared.call.Call.{Call}
 use Rattle.book.specs.declared.call.Call.the-variants.{Task, Untask, Base}
@@ -29,8 +27,8 @@ use Rattle.book.specs.declared.refusal.Refusal.the-variants.{FewRows}
 use Rattle.book.specs.Book.{Book, level, first}
 use Rattle.book.specs.Calls.{refusals, waits-after, base-after, after}
 use Rattle.book.specs.Runs.{earliest, woken, changed, left-waiting, all-refusals, answer, kept-or, step-by}
-use Rattle.book.specs.Kernel.{State, row-at, if-present, book-of, levels-of, Kept, Right, Made}
-use Rattle.steps.specs.Judged.{nobody, refusal}
+use Rattle.book.specs.Kernel.{State, row-at, if-present, book-of, levels-of, Made}
+use Rattle.steps.specs.Judged.{refusal}
 use Rattle.steps.proofs.Judging.{task-found, base-found}
 use Rattle.inheritance.proofs.Rows.{row-there, row-set-same, row-set-other}
 use Rattle.kernel.specs.Inner.{asked, Within, Noted, Accepted}

@@ -1,6 +1,6 @@
 -- Which refusal comes first, call by call.
-use mathlib.Core.Path.{_≡_, refl, sym, _∙_, ap}
-use mathlib.Core.Bool.{Bool, true, false, cond, not, _&&_, _||_}
+use mathlib.Core.Path.{_≡_, refl, _∙_, ap}
+use mathlib.Core.Bool.{true, false, not, _&&_, _||_}
 use Prim.Native.Nat.{ℕ, _<_, _≤_}
 use native.Mathlib.Decide.{decLt}
 use native.Mathlib.Omega.{arith}
@@ -12,10 +12,10 @@ use Rattle.std.specs.declared.option.Option.the-variants.{Some, None}
 use Rattle.waits.specs.declared.parts.Wait.{Wait}
 use Rattle.waits.specs.declared.parts.Wait.the-variants.{Ready}
 use Rattle.waits.specs.Waits.{Waits, does, with-task}
-use Rattle.waits.specs.Facts.{Holds, Helps, Facts}
-use Rattle.waits.proofs.Keeps.{is-same-wait, same-wait-is}
+use Rattle.waits.specs.Facts.{Facts}
+use Rattle.waits.proofs.Keeps.{same-wait-is}
 use Rattle.waits.proofs.Reach.{ring-false}
-use Rattle.waits.proofs.Tests.{true-of, false-of}
+use Rattle.waits.proofs.Tests.{false-of}
 use Rattle.book.specs.declared.call.Call.the-variants.{Task, Untask, Base}
 use Rattle.book.specs.declared.refusal.Refusal.{Refusal}
 use Rattle.book.specs.declared.refusal.Refusal.the-variants.{Over63, NotDeclared, AlreadyThere, CallerWaits, InUse}

@@ -1,6 +1,6 @@
 -- Sets of numbers below 64 as the bits of a number: member k has the bit of value 2 ^ k.
 use mathlib.Core.Path.{_≡_}
-use mathlib.Core.Bool.{Bool, true, false, cond}
+use mathlib.Core.Bool.{Bool, cond}
 use Prim.Native.Nat.{ℕ, zero, suc, _+_, _/_, _%_, _^_, _<_}
 use lib.Dec.{eqb}
 

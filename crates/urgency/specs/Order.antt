@@ -1,6 +1,6 @@
 -- What an order of urgencies is, and the more urgent of two.
 use mathlib.Core.Path.{_≡_}
-use mathlib.Core.Bool.{Bool, true, false, cond, not, _&&_}
+use mathlib.Core.Bool.{Bool, true, false, cond, _&&_}
 use mathlib.Core.Logic.{_⊎_}
 use lib.Dec.{T}
 use Rattle.std.specs.declared.option.Option.{Option}

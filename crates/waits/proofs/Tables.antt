@@ -3,7 +3,7 @@ use mathlib.Core.Path.{_≡_, refl, sym, subst, _∙_, ap, fun-ext}
 use mathlib.Core.Bool.{Bool, true, false, cond}
 use mathlib.Core.List.{List}
 use mathlib.Core.Logic.{_≢_}
-use Prim.Native.Nat.{ℕ, zero, suc, _^_, _<_, _≤_}
+use Prim.Native.Nat.{ℕ, zero, suc, _^_, _<_}
 use native.Mathlib.Decide.{decLt}
 use native.Mathlib.Omega.{arith}
 use lib.Dec.{T, eqb, eqb→eq, eqb-refl}
@@ -17,11 +17,11 @@ use Rattle.tasksets.specs.Sets.{bit}
 use Rattle.tasksets.proofs.Bits.{bit-none}
 use Rattle.tasksets.proofs.Those.{has-T}
 use Rattle.waits.specs.declared.parts.Wait.{Wait}
-use Rattle.waits.specs.declared.parts.Wait.the-variants.{Ready, AtSemaphore, OnCondition}
+use Rattle.waits.specs.declared.parts.Wait.the-variants.{AtSemaphore}
 use Rattle.waits.specs.declared.parts.Holder.{Holder}
 use Rattle.waits.specs.declared.parts.Condition.{Condition}
 use Rattle.waits.specs.declared.table.WaitTable.{WaitTable}
-use Rattle.waits.specs.declared.parts.Holder.the-variants.{Free, HeldBy}
+use Rattle.waits.specs.declared.parts.Holder.the-variants.{HeldBy}
 use Rattle.waits.specs.Waits.{Waits, waits, nothing, put, wait-in, holder-set, awaited-in, awaited, Awaits, held-by, with-task}
 use Rattle.waits.specs.Facts.{Sound, Facts}
 use Rattle.waits.specs.Table.{waits-of}

@@ -1,4 +1,4 @@
-use mathlib.Core.Path.{_≡_, refl, sym, subst, ap, _∙_}
+use mathlib.Core.Path.{sym, subst, ap, _∙_}
 use lib.Dec.{eqb}
 use Rattle.urgency.specs.Order.{upper}
 use Rattle.tasksets.proofs.Bits.{bit-none}

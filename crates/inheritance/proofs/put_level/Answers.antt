@@ -2,9 +2,8 @@ use mathlib.Core.Path.{_≡_, refl, sym, ap, _∙_}
 use native.Mathlib.Omega.{arith}
 use lib.ListN.{getD}
 use Rattle.std.specs.Options.{mapped}
-use Rattle.std.specs.declared.option.Option.the-variants.{Some, None}
+use Rattle.std.specs.declared.option.Option.the-variants.{Some}
 use Rattle.waits.specs.Table.{waits-of}
-use Rattle.book.specs.Kernel.{row-at}
 use Rattle.inheritance.specs.Rows.{releveled}
 use Rattle.inheritance.proofs.Rows.{row-there, row-past, row-set-same, row-set-other}
 use Rattle.inheritance.proofs.put_level.Needs as need

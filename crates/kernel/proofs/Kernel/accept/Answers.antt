@@ -1,7 +1,4 @@
-use mathlib.Core.Path.{_≡_, refl, sym, ap, _∙_}
-use mathlib.Core.Bool.{Bool}
-use Prim.Native.Nat.{ℕ}
-use lib.Bits.{bitAnd}
+use mathlib.Core.Path.{refl, sym, ap, _∙_}
 use Rattle.waits.specs.Table.{waits-of}
 use Rattle.book.specs.Runs.{woken}
 use Rattle.book.specs.Kernel.{levels-of}

@@ -2,7 +2,6 @@ use mathlib.Core.Path.{_≡_, sym, ap, _∙_}
 use lib.Dec.{eqb}
 use Rattle.std.specs.declared.option.Option.the-variants.{None}
 use Rattle.tasksets.proofs.Bits.{bit-none}
-use Rattle.waits.specs.declared.parts.Test.the-variants.{HelpedByTask}
 use Rattle.waits.specs.Waits.{passes, helped-by}
 use Rattle.waits.specs.Table.{waits-of}
 use Rattle.waits.proofs.table.WaitTable.passes.Needs as need

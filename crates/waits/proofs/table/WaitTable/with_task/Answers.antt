@@ -1,7 +1,5 @@
-use mathlib.Core.Path.{_≡_, sym, subst, _∙_}
-use Prim.Native.Nat.{_<_}
+use mathlib.Core.Path.{sym, subst, _∙_}
 use native.Mathlib.Omega.{arith}
-use lib.ListN.{length}
 use Rattle.waits.specs.Facts.{Facts}
 use Rattle.waits.proofs.Tables.{task-written}
 use Rattle.waits.proofs.table.WaitTable.with_task.Needs as need
