@@ -1,3 +1,7 @@
+ghost use mathlib.Core.Path.{_≡_};
+ghost use Rattle.std.specs.declared.option.Option.the-variants.{None};
+ghost use Rattle.std.specs.declared.result.Result.the-variants.{Err};
+ghost use Rattle.book.specs.declared.refusal.Refusal.the-variants.{FewRows};
 use super::refusal::Refusal;
 use tasksets::TaskSet;
 
@@ -18,4 +22,17 @@ pub struct LogEntry<U> {
     pub call: Call<U>,
     pub reply: Reply,
     pub running: Option<u32>,
+}
+
+impl<U> LogEntry<U> {
+    /// A call that is yet to be made: a run writes over its reply and its running task.
+    pub fn new(call: Call<U>) -> LogEntry<U>
+        ensures { λ r. ⌜ (r .call ≡ call) × (r .reply ≡ Err FewRows) × (r .running ≡ None) ⌝ }
+    {
+        LogEntry {
+            call,
+            reply: Err(Refusal::FewRows),
+            running: None,
+        }
+    }
 }

@@ -1,4 +1,4 @@
-// The calls, the refusals and what a call answers. The plain book that is kept from the calls alone stands in specs/.
+//! The calls, the refusals and what a call answers. The plain book that is kept from the calls alone stands in specs/.
 mod call;
 mod refusal;
 mod row;

@@ -1,4 +1,4 @@
-// The wait table: what is present, who waits for what, and the tasks along a chain.
+//! The wait table: what is present, who waits for what, and the tasks along a chain.
 ghost use mathlib.Core.Path.{_≡_};
 ghost use mathlib.Core.Bool.{_&&_, _||_};
 ghost use Prim.Native.Nat.{ℕ, _<_};
