@@ -111,15 +111,13 @@ module _ {U : Type 0} (urgent : U → U → Bool) (t : WaitTable) (standing : �
         done j b (no q) = others j q ∙ s .done j (omega arith)
 
   -- all 64 are done
-  module _ (now : List (Row U)) (changed : ℕ) (s : Settling 64 now changed) (size : length now ≡ length rows) (enough : 64 ≤ length rows) where
+  module _ (now : List (Row U)) (changed : ℕ) (s : Settling 64 now changed) (size : length now ≡ length rows) where
     -- a present task has a row, and so a base and a level
-    written : (i : ℕ) → Present (waits-of t) i → row-levels now i ≡ to i
-    written i p =
+    written : (i : ℕ) → Present (waits-of t) i → i < length rows → row-levels now i ≡ to i
+    written i p there =
         let low = facts-of t .sound .tasks< i p in
-        ap (mapped (λ r. r .level)) (s .done i low) ∙ go (waits-of t .tasks i) p (row-at rows i) (rowed i low) (to i) (most-some urgent (held t rows .base) (leading (waits-of t) i) 64 i low (self i low) (based i (waits-of t .tasks i) p (row-at rows i) (rowed i low)))
+        ap (mapped (λ r. r .level)) (s .done i low) ∙ go (waits-of t .tasks i) p (row-at rows i) (row-some rows i there) (to i) (most-some urgent (held t rows .base) (leading (waits-of t) i) 64 i low (self i low) (based i (waits-of t .tasks i) p (row-at rows i) (row-some rows i there)))
       where
-        rowed : (i : ℕ) → i < 64 → T (isSome (row-at rows i))
-        rowed i l = row-some rows i (omega arith)
 
         self : (i : ℕ) → i < 64 → has (leading (waits-of t) i) i ≡ true
         self i l = true-of (has (leading (waits-of t) i) i) (T-has (leading (waits-of t) i) i (leading-all (waits-of t) (facts-of t .sound) i l i here))
@@ -151,7 +149,7 @@ module _ {U : Type 0} (urgent : U → U → Bool) (t : WaitTable) (standing : �
     settled =
         let stays = settling-book 64 now changed s in record {
           book = stays;
-          right = λ i p. written i p ∙ ap (λ b. level urgent b i) (sym stays);
+          right = λ i p l. written i p l ∙ ap (λ b. level urgent b i) (sym stays);
           kept = record { size = size; rest = unwritten };
           changed = s .found;
         }

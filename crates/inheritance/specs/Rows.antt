@@ -2,7 +2,8 @@
 use mathlib.Core.Path.{_≡_}
 use mathlib.Core.Bool.{Bool, not, _&&_}
 use mathlib.Core.List.{List}
-use Prim.Native.Nat.{ℕ}
+use Prim.Native.Nat.{ℕ, _<_}
+use lib.ListN.{length}
 use Rattle.std.specs.Options.{mapped}
 use Rattle.std.specs.declared.option.Option.{Option}
 use Rattle.std.specs.declared.option.Option.the-variants.{Some, None}
@@ -10,10 +11,11 @@ use Rattle.urgency.specs.Order.{same}
 use Rattle.tasksets.specs.Sets.{has, those}
 use Rattle.waits.specs.declared.parts.Wait.{Wait}
 use Rattle.waits.specs.declared.table.WaitTable.{WaitTable}
+use Rattle.waits.specs.Facts.{Present}
 use Rattle.waits.specs.Table.{waits-of}
 use Rattle.book.specs.declared.row.Row.{Row}
 use Rattle.book.specs.Book.{Book, level}
-use Rattle.book.specs.Kernel.{State, row-at, book-of, Kept, Right}
+use Rattle.book.specs.Kernel.{State, row-at, book-of, Kept}
 
 module _ {U : Type 0} where
   -- a table and rows, together
@@ -34,9 +36,9 @@ module _ {U : Type 0} where
   releveled (Some w) None r = r
   releveled (Some w) (Some u) r = record { base = r .base; level = u }
 
--- the levels of all present tasks stand in their rows, and r is the set of those of `standing` whose level was another
+-- each present task that has a row has its level there, all else is as it was, and r is the set of those of `standing` whose level was another
 pub record Settled {U : Type 0} (urgent : U → U → Bool) (t : WaitTable) (standing : ℕ) (rows rows′ : List (Row U)) (r : ℕ) : Type 0 where
   pub book : held t rows′ ≡ held t rows
-  pub right : Right urgent (both t rows′)
+  pub right : (i : ℕ) → Present (waits-of t) i → i < length rows → row-levels rows′ i ≡ level urgent (held t rows′) i
   pub kept : Kept (both t rows) (both t rows′)
   pub changed : r ≡ those (λ i. has standing i && not (same urgent (row-levels rows i) (level urgent (held t rows) i)))

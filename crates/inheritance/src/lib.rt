@@ -1,8 +1,7 @@
 //! Inheritance of urgency: the levels of all tasks, worked out over the task rows, and the first of a set by its level.
 ghost use mathlib.Core.Path.{_≡_};
 ghost use mathlib.Core.Bool.{not, _&&_};
-ghost use Prim.Native.Nat.{ℕ, _≤_};
-ghost use lib.ListN.{length};
+ghost use Prim.Native.Nat.{ℕ};
 ghost use Rattle.std.specs.Options.{mapped};
 ghost use Rattle.urgency.specs.Order.{same};
 ghost use Rattle.tasksets.specs.Sets.{has};
@@ -97,7 +96,7 @@ fn put_level<U: Urgency>(table: &WaitTable, rows: &mut [Row<U>], t: u32, level: 
 
 /// Works out the levels of all tasks and writes them into the rows of those that are present; the answer is the tasks of `standing` whose level was another.
 pub fn settle<U: Urgency>(table: &WaitTable, standing: TaskSet, rows: &mut [Row<U>]) -> TaskSet
-    ensures { λ r. ⌜ (64 ≤ length (now (rows .entry)) → Settled urgent (now (table .entry)) standing (now (rows .entry)) (now (rows .exit)) r) ⌝ }
+    ensures { λ r. ⌜ Settled urgent (now (table .entry)) standing (now (rows .entry)) (now (rows .exit)) r ⌝ }
 {
     let leading = table.leading();
     let mut changed: TaskSet = 0;

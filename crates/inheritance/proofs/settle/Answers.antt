@@ -31,7 +31,7 @@ loop-t-again g c =
     (c .loop-t-test .taken) (λ j b. c .leading-leading .ensures n j (c .loop-t-test .taken) b) (c .most-level .ensures) (c .put-level .ensures .here) (c .put-level .ensures .others) found
 
 pub returns : need.returns
-returns g c = λ enough.
+returns g c =
     let end : c .loop-t .t ≡ 64 = omega arith in
     settled (g .U·Urgency .urgent) (c .args .table .now) (c .args .standing) (c .args .rows .now) (c .loop-t .rows) (c .loop-t .changed)
-    (subst (λ n. Settling (g .U·Urgency .urgent) (c .args .table .now) (c .args .standing) (c .args .rows .now) n (c .loop-t .rows) (c .loop-t .changed)) end (c .loop-t .inv)) (c .loop-t .kept .rows) enough
+    (subst (λ n. Settling (g .U·Urgency .urgent) (c .args .table .now) (c .args .standing) (c .args .rows .now) n (c .loop-t .rows) (c .loop-t .changed)) end (c .loop-t .inv)) (c .loop-t .kept .rows)

@@ -1,5 +1,7 @@
 use mathlib.Core.Path.{refl, sym, ap, _∙_}
+use native.Mathlib.Omega.{arith}
 use Rattle.waits.specs.Table.{waits-of}
+use Rattle.waits.proofs.Tables.{facts-of}
 use Rattle.book.specs.Runs.{woken}
 use Rattle.book.specs.Kernel.{levels-of}
 use Rattle.inheritance.specs.Rows.{held}
@@ -9,14 +11,14 @@ use Rattle.kernel.proofs.Kernel.accept.Needs as need
 
 pub returns : need.returns
 returns g c =
-    let s = c .settle-changed .ensures (c .pre) in
+    let s = c .settle-changed .ensures in
     let w = waits-of (c .args .self .now .table) in
     let x = waits-of (c .args .next) in
     record {
       accepted = record {
         waits = refl;
         book = s .book;
-        right = s .right;
+        right = λ i p. s .right i p (omega (arith, facts-of (c .args .next) .sound .tasks< i p, c .pre));
         kept = s .kept;
         answer =
             ap (λ a. (c .args .waiting, a, c .settle-changed .result)) (woken-is w x (c .those .result) (c .those-2 .result) (c .those .ensures) (c .those-2 .ensures))
