@@ -98,7 +98,7 @@ module _ {U : Type 0} (urgent : U → U → Bool) where
   pub run-agrees : {rows : List (Row U)} {es : List (LogEntry U)} {k : State U} → Run urgent rows es k
       → Agrees urgent k (book-after urgent (length rows) (calls es)) × (length (k .rows) ≡ length rows)
   run-agrees (begin a) = (a, refl)
-  run-agrees (call r e reply runs a kept) = (a, kept .size ∙ run-agrees r .1)
+  run-agrees (call r e reply a runs kept) = (a, kept .size ∙ run-agrees r .1)
 
   pub run-call : {rows : List (Row U)} {es : List (LogEntry U)} {k k′ : State U} → Run urgent rows es k → (e : LogEntry U)
       → Made urgent k (e .call) (e .reply) k′ → e .running ≡ running-of urgent k′ → Run urgent rows (es ++ (e ∷ [])) k′
@@ -113,4 +113,4 @@ module _ {U : Type 0} (urgent : U → U → Bool) where
       let more : step urgent n b (e .call) .0 ≡ book-after urgent n (calls (es ++ (e ∷ []))) =
       sym (ap (book-from urgent n empty) (calls-more es e) ∙ book-more n empty (calls es) (e .call)) in
       let agrees = right-agrees k′ (book-after urgent n (calls (es ++ (e ∷ [])))) (ap (λ p. p .0) made ∙ more) (right-on k k′ (e .call) (e .reply) right m) in
-      call run e (ap (λ p. p .1) made) (runs ∙ agrees .runs) agrees (m .kept)
+      call run e (ap (λ p. p .1) made) agrees (runs ∙ agrees .runs) (m .kept)

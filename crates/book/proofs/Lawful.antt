@@ -114,7 +114,7 @@ module _ {U : Type 0} (urgent : U → U → Bool) (order : Order (λ u v. T (urg
       go (Some k) e = let z : _≡_ {A = ℕ} 0 1 = cc in absurd (omega arith)
       go None e = let p = told e in (ap (λ p. p .1) p, ap (λ p. p .2) p)
 
-  at-each-call : (n : ℕ) (b : Book U) → Facts (b .waits) → (c : Call U) → AtEachCall urgent n b c
+  at-each-call : (n : ℕ) (b : Book U) → Facts (b .waits) → (c : Call U) → AtEachCall urgent n b c (step urgent n b c .0) (step urgent n b c .1)
   at-each-call n b f c = record {
     refused = refused urgent n b c;
     ring = ring-refused urgent n b c f;

@@ -50,7 +50,7 @@ module _ {U : Type 0} where
   abbrev pub opened : List (Row U) → State U
   opened rows = record { waits = nothing; rows = rows }
 
-  -- the rows of tasks that are absent in k′, and all past the first 64, are as they were
+  -- the rows of tasks that are absent in k′, and so all past the first 64, are as they were
   pub record Kept (k k′ : State U) : Type 0 where
     pub size : length (k′ .rows) ≡ length (k .rows)
     pub rest : (i : ℕ) → (Present (k′ .waits) i → ⊥) → row-at (k′ .rows) i ≡ row-at (k .rows) i
@@ -87,11 +87,12 @@ module _ {U : Type 0} (urgent : U → U → Bool) where
     -- the running task
     pub runs : running-of k ≡ running urgent b
 
-  -- a run of the calls of a log from a kernel opened over rows: it agrees with the book, fed the calls alone, at opening and after each call
+  -- the book that is fed the number of rows and the calls of a log, and nothing else
+  abbrev pub book-at : List (Row U) → List (LogEntry U) → Book U
+  book-at rows es = book-after urgent (length rows) (calls es)
+
+  -- a run of the calls of a log from a kernel opened over rows: it agrees with the book at opening and after each call
   pub data Run (rows : List (Row U)) : List (LogEntry U) → State U → Type 0 where
-    begin : Agrees (opened rows) (book-after urgent (length rows) []) → Run rows [] (opened rows)
-    call : {es : List (LogEntry U)} {k k′ : State U} → Run rows es k → (e : LogEntry U)
-        → e .reply ≡ step urgent (length rows) (book-after urgent (length rows) (calls es)) (e .call) .1
-        → e .running ≡ running urgent (book-after urgent (length rows) (calls (es ++ (e ∷ []))))
-        → Agrees k′ (book-after urgent (length rows) (calls (es ++ (e ∷ []))))
-        → Kept k k′ → Run rows (es ++ (e ∷ [])) k′
+    begin : Agrees (opened rows) (book-at rows []) → Run rows [] (opened rows)
+    call : {es : List (LogEntry U)} {k k′ : State U} → Run rows es k → (e : LogEntry U) → e .reply ≡ step urgent (length rows) (book-at rows es) (e .call) .1
+        → Agrees k′ (book-at rows (es ++ (e ∷ []))) → e .running ≡ running urgent (book-at rows (es ++ (e ∷ []))) → Kept k k′ → Run rows (es ++ (e ∷ [])) k′

@@ -22,7 +22,7 @@ use Rattle.book.specs.Refusals.{number-of}
 use Rattle.book.specs.Book.{Book, level, running}
 use Rattle.book.specs.Levels.{IsMost, IsLevel, LocalRule, First}
 use Rattle.book.specs.Calls.{after}
-use Rattle.book.specs.Runs.{all-refusals, step, book-after}
+use Rattle.book.specs.Runs.{Reply, all-refusals, step, book-after}
 
 -- the refusal k is in the list, and its condition holds
 abbrev pub meets : Refusal → List (Refusal × Bool) → Bool
@@ -64,24 +64,25 @@ module _ {U : Type 0} (urgent : U → U → Bool) where
   may-ring (Untask t) = false
   may-ring (Base t v) = false
 
-  pub record AtEachCall (n : ℕ) (b : Book U) (c : Call U) : Type 0 where
+  -- a call c on the book b, with n rows, leaves the book x and answers r
+  pub record AtEachCall (n : ℕ) (b : Book U) (c : Call U) (x : Book U) (r : Reply) : Type 0 where
     -- a refusal is given just where it applies and none with a smaller number does
-    pub refused : (k : Refusal) → (step urgent n b c .1 ≡ Err k) ↔ (Applies n b c k × ((j : Refusal) → number-of j < number-of k → Applies n b c j → ⊥))
+    pub refused : (k : Refusal) → (r ≡ Err k) ↔ (Applies n b c k × ((j : Refusal) → number-of j < number-of k → Applies n b c j → ⊥))
     -- the ring's is given just where no other applies and the whole step would leave a ring
-    pub ring : (step urgent n b c .1 ≡ Err WouldRing) ↔ (((j : Refusal) → number-of j < number-of WouldRing → Applies n b c j → ⊥) × ((i : ℕ) × Ring (Awaits (after urgent (level urgent b) b c .waits)) i))
+    pub ring : (r ≡ Err WouldRing) ↔ (((j : Refusal) → number-of j < number-of WouldRing → Applies n b c j → ⊥) × ((i : ℕ) × Ring (Awaits (after urgent (level urgent b) b c .waits)) i))
     -- and no other call is refused so
-    pub no-ring : may-ring c ≡ false → step urgent n b c .1 ≡ Err WouldRing → ⊥
+    pub no-ring : may-ring c ≡ false → r ≡ Err WouldRing → ⊥
     -- a standing task keeps its level unless a chain leads to it, before or after, from a task that the call altered
-    pub locality : (t : ℕ) → Present (b .waits) t → Present (step urgent n b c .0 .waits) t
-        → (From (Awaits (b .waits)) (Altered b (step urgent n b c .0)) t → ⊥) → (From (Awaits (step urgent n b c .0 .waits)) (Altered b (step urgent n b c .0)) t → ⊥)
-        → level urgent b t ≡ level urgent (step urgent n b c .0) t
+    pub locality : (t : ℕ) → Present (b .waits) t → Present (x .waits) t
+        → (From (Awaits (b .waits)) (Altered b x) t → ⊥) → (From (Awaits (x .waits)) (Altered b x) t → ⊥)
+        → level urgent b t ≡ level urgent x t
     -- woken are the tasks that waited before and are ready after
-    pub woken : (w : Bool) (a d : ℕ) → step urgent n b c .1 ≡ Ok (w, a, d)
-        → (i : ℕ) → Has a i ↔ (Present (b .waits) i × (IsReady (b .waits) i → ⊥) × IsReady (step urgent n b c .0 .waits) i)
+    pub woken : (w : Bool) (a d : ℕ) → r ≡ Ok (w, a, d)
+        → (i : ℕ) → Has a i ↔ (Present (b .waits) i × (IsReady (b .waits) i → ⊥) × IsReady (x .waits) i)
     -- changed are the standing tasks whose level differs
-    pub changed : (w : Bool) (a d : ℕ) → step urgent n b c .1 ≡ Ok (w, a, d)
-        → (i : ℕ) → Has d i ↔ (Present (b .waits) i × Present (step urgent n b c .0 .waits) i × (level urgent b i ≡ level urgent (step urgent n b c .0) i → ⊥))
+    pub changed : (w : Bool) (a d : ℕ) → r ≡ Ok (w, a, d)
+        → (i : ℕ) → Has d i ↔ (Present (b .waits) i × Present (x .waits) i × (level urgent b i ≡ level urgent x i → ⊥))
 
   -- both, after every list of calls
   abbrev pub Lawful : Type 0
-  Lawful = (n : ℕ) (cs : List (Call U)) → AtEachPoint (book-after urgent n cs) × ((c : Call U) → AtEachCall n (book-after urgent n cs) c)
+  Lawful = (n : ℕ) (cs : List (Call U)) → AtEachPoint (book-after urgent n cs) × ((c : Call U) → AtEachCall n (book-after urgent n cs) c (step urgent n (book-after urgent n cs) c .0) (step urgent n (book-after urgent n cs) c .1))

@@ -118,7 +118,6 @@ module _ {U : Type 0} (urgent : U → U → Bool) (t : WaitTable) (standing : �
         let low = facts-of t .sound .tasks< i p in
         ap (mapped (λ r. r .level)) (s .done i low) ∙ go (waits-of t .tasks i) p (row-at rows i) (row-some rows i there) (to i) (most-some urgent (held t rows .base) (leading (waits-of t) i) 64 i low (self i low) (based i (waits-of t .tasks i) p (row-at rows i) (row-some rows i there)))
       where
-
         self : (i : ℕ) → i < 64 → has (leading (waits-of t) i) i ≡ true
         self i l = true-of (has (leading (waits-of t) i) i) (T-has (leading (waits-of t) i) i (leading-all (waits-of t) (facts-of t .sound) i l i here))
 
