@@ -188,9 +188,6 @@ module _ {U : Type 0} (urgent : U → U → Bool) (k : State U) (t : ℕ) (r : B
         any : Row U
         any = record { base = v; level = v }
 
-        new : Row U
-        new = record { base = v; level = getD (k .rows) t any .level }
-
         away : (i : ℕ) → (i ≡ t → ⊥) → row-at rows i ≡ row-at (k .rows) i
         away i ne = ap (λ rows. row-at rows i) (written any) ∙ row-set-other (k .rows) t i _ ne
 

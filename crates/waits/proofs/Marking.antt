@@ -20,10 +20,6 @@ use Rattle.waits.specs.Table.{waits-of}
 use Rattle.waits.proofs.Reach.{leading-only, leading-all}
 use Rattle.waits.proofs.Tables.{facts-of}
 
-or-false : (x : Bool) → (x || false) ≡ x
-or-false true = refl
-or-false false = refl
-
 module _ (to i : ℕ) (before : List ℕ) where
   -- member j of the set of t, where i was added to the sets of to
   abbrev pub added : ℕ → ℕ → Bool
@@ -35,9 +31,6 @@ module _ (to i : ℕ) (before : List ℕ) where
     pub inside : (t : ℕ) → has left t ≡ true → has to t ≡ true
     pub still : (t : ℕ) → has left t ≡ true → getD sets t 0 ≡ getD before t 0
     pub done : (t j : ℕ) → j < 64 → has left t ≡ false → has (getD sets t 0) j ≡ added t j
-
-  pub adding-start : Adding to before
-  adding-start = record { long = refl; inside = λ t h. h; still = λ t h. refl; done = λ t j l h. sym (ap (λ x. has (getD before t 0) j || (x && eqb j i)) h ∙ or-false (has (getD before t 0) j)) }
 
   module _ {left left′ k : ℕ} (v : ℕ) {sets sets′ : List ℕ} (r : Adding left sets) (h : has left k ≡ true) (l : k < length before)
       (fewer : (t : ℕ) → has left′ t ≡ (has left t && not (eqb t k))) (one : (j : ℕ) → j < 64 → has v j ≡ (has (getD sets k 0) j || eqb j i)) (e : sets′ ≡ set sets k v) where
