@@ -14,8 +14,8 @@ import re
 WORD = re.compile(r"[^\s(){}\[\],;.:`\"]+")
 DECLARED = re.compile(r"\s*(?:(?:abbrev|unfoldable|pub|record|data)\s+)*((?:[^\s(){}\[\],;.:=]+\s+)*)(?:[({].*)?:\s+(.*)$")
 GIVEN = ("goal.", "Given.")
-# Names that the kit's script only half turned.
-HALF = {"at_least_lem": "at_least", "getD-put": "get_or_put"}
+# Names that the kit's script only half turned, and lemmas that would fall together with the kit's functions.
+HALF = {"at_least_lem": "at_least", "getD-put": "get_or_put", "bit-and": "bit_of_and", "bit-or": "bit_of_or"}
 
 
 def files(*ends):

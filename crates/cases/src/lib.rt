@@ -1,4 +1,5 @@
 //! The calls, the questions and the running task at their edges.
+#![tactic(auto)]
 #[cfg(test)]
 mod tests {
     use book::{Call, Refusal, Row};

@@ -1,4 +1,6 @@
 //! Inheritance of urgency: the levels of all tasks, worked out over the task rows, and the first of a set by its level.
+#![tactic(auto)]
+
 ghost use Rattle.std.specs.Prelude.{◌≡◌, ℕ, not, ◌&&◌, ◌≢◌};
 ghost use Rattle.std.specs.Option.{option_map};
 ghost use Rattle.urgency.specs.Order.{same};
@@ -50,7 +52,7 @@ pub fn base_in<U: Urgency>(table: &WaitTable, rows: &[Row<U>], i: u32) -> Option
 
 /// The most urgent base among the tasks of a set.
 fn most<U: Urgency>(table: &WaitTable, rows: &[Row<U>], set: TaskSet) -> Option<U>
-    ensures { result ≡ most_below urgent (held table.now rows.now).base 64 set }
+    ensures { result ≡ most_below U.urgent (held table.now rows.now).base 64 set }
 {
     let mut top: Option<U> = None;
     let mut left = set;
@@ -63,7 +65,7 @@ fn most<U: Urgency>(table: &WaitTable, rows: &[Row<U>], set: TaskSet) -> Option<
 
 /// Whether task t is of the set and its row holds another level than this one.
 fn differs<U: Urgency>(rows: &[Row<U>], set: TaskSet, t: u32, level: Option<U>) -> bool
-    ensures { result ≡ (has set t && not (same urgent (row_levels rows.now t) level)) }
+    ensures { result ≡ (has set t && not (same U.urgent (row_levels rows.now t) level)) }
 {
     contains(set, t) && !same_urgency(level_in(rows, t), level)
 }
@@ -88,7 +90,7 @@ fn put_level<U: Urgency>(table: &WaitTable, rows: &mut [Row<U>], t: u32, level: 
 
 /// Works out the levels of all tasks and writes them into the rows of those that are present; the answer is the tasks of `standing` whose level was another.
 pub fn settle<U: Urgency>(table: &WaitTable, standing: TaskSet, rows: &mut [Row<U>]) -> TaskSet
-    ensures { Settled urgent table.now standing rows.old rows.new result }
+    ensures { Settled U.urgent table.now standing rows.old rows.new result }
 {
     let leading = table.leading();
     let mut changed: TaskSet = 0;
@@ -104,7 +106,7 @@ pub fn settle<U: Urgency>(table: &WaitTable, standing: TaskSet, rows: &mut [Row<
 
 /// The better of two tasks by the levels in their rows: the more urgent, and the earlier where they are equal.
 fn better<U: Urgency>(rows: &[Row<U>], best: Option<u32>, i: u32) -> Option<u32>
-    ensures { result ≡ better urgent (row_levels rows.now) best i }
+    ensures { result ≡ better U.urgent (row_levels rows.now) best i }
 {
     let Some(k) = best else {
         return Some(i);
@@ -118,7 +120,7 @@ fn better<U: Urgency>(rows: &[Row<U>], best: Option<u32>, i: u32) -> Option<u32>
 
 /// The first of a set: the task with the most urgent level in its row, and the smallest number where levels are equal.
 pub fn first<U: Urgency>(rows: &[Row<U>], set: TaskSet) -> Option<u32>
-    ensures { result ≡ first urgent (row_levels rows.now) set }
+    ensures { result ≡ first U.urgent (row_levels rows.now) set }
 {
     let mut best: Option<u32> = None;
     for i in 0..64u32 {

@@ -1,4 +1,6 @@
 //! The kernel: tasks and their levels over lent rows; each call, each question, and runs of calls.
+#![tactic(auto)]
+
 ghost use Rattle.std.specs.Prelude.{◌≡◌, ◌<◌, ◌≤◌, length, Ok, Err, slice_index_or, slice_set};
 ghost use Rattle.std.specs.Option.{option_map};
 ghost use Rattle.tasksets.specs.Sets.{members_below};
@@ -60,7 +62,7 @@ impl<'a, U: Urgency> Kernel<'a, U> {
     // The end of every accepted call: the next table is written whole, the levels are worked out, and the answer is told.
     fn accept(&mut self, next: WaitTable, waiting: bool) -> (bool, TaskSet, TaskSet)
         requires { 64 ≤ length self.old.rows.now }
-        ensures accepted { Accepted urgent (state_of self.old) (waits_of next) waiting result (state_of self.new) }
+        ensures accepted { Accepted U.urgent (state_of self.old) (waits_of next) waiting result (state_of self.new) }
         ensures named { self.new.rows.ghost_name ≡ self.old.rows.ghost_name }
     {
         let Kernel { rows, table } = self;
@@ -103,7 +105,7 @@ impl<'a, U: Urgency> Kernel<'a, U> {
 
     // The table after a call's step, by the rule of the call.
     fn next(&self, call: Call<U>) -> Result<WaitTable, Refusal>
-        ensures { Judged (first urgent (levels_of (state_of self.now))) (waits_of self.now.table) (asked call) result }
+        ensures { Judged (first U.urgent (levels_of (state_of self.now))) (waits_of self.now.table) (asked call) result }
     {
         match call {
             Call::Task(t, _) => steps::task(&self.table, t),
@@ -120,7 +122,7 @@ impl<'a, U: Urgency> Kernel<'a, U> {
 
     /// Makes any call.
     pub fn make(&mut self, call: Call<U>) -> Reply
-        ensures made { Made urgent (state_of self.old) call result (state_of self.new) }
+        ensures made { Made U.urgent (state_of self.old) call result (state_of self.new) }
         ensures named { self.new.rows.ghost_name ≡ self.old.rows.ghost_name }
     {
         if self.rows.len() < 64 {
@@ -135,7 +137,7 @@ impl<'a, U: Urgency> Kernel<'a, U> {
 
     /// `task t v`: t becomes present and ready, with base v.
     pub fn task(&mut self, t: u32, v: U) -> Reply
-        ensures made { Made urgent (state_of self.old) (Task t v) result (state_of self.new) }
+        ensures made { Made U.urgent (state_of self.old) (Task t v) result (state_of self.new) }
         ensures named { self.new.rows.ghost_name ≡ self.old.rows.ghost_name }
     {
         self.make(Call::Task(t, v))
@@ -143,7 +145,7 @@ impl<'a, U: Urgency> Kernel<'a, U> {
 
     /// `untask t`: t becomes absent; its row keeps what it holds.
     pub fn untask(&mut self, t: u32) -> Reply
-        ensures made { Made urgent (state_of self.old) (Untask t) result (state_of self.new) }
+        ensures made { Made U.urgent (state_of self.old) (Untask t) result (state_of self.new) }
         ensures named { self.new.rows.ghost_name ≡ self.old.rows.ghost_name }
     {
         self.make(Call::Untask(t))
@@ -151,7 +153,7 @@ impl<'a, U: Urgency> Kernel<'a, U> {
 
     /// `base t v`: the base of t is v from now on.
     pub fn base(&mut self, t: u32, v: U) -> Reply
-        ensures made { Made urgent (state_of self.old) (Base t v) result (state_of self.new) }
+        ensures made { Made U.urgent (state_of self.old) (Base t v) result (state_of self.new) }
         ensures named { self.new.rows.ghost_name ≡ self.old.rows.ghost_name }
     {
         self.make(Call::Base(t, v))
@@ -159,7 +161,7 @@ impl<'a, U: Urgency> Kernel<'a, U> {
 
     /// `sem s`: s becomes present, and is free.
     pub fn sem(&mut self, s: u32) -> Reply
-        ensures made { Made urgent (state_of self.old) (Sem s) result (state_of self.new) }
+        ensures made { Made U.urgent (state_of self.old) (Sem s) result (state_of self.new) }
         ensures named { self.new.rows.ghost_name ≡ self.old.rows.ghost_name }
     {
         self.make(Call::Sem(s))
@@ -167,7 +169,7 @@ impl<'a, U: Urgency> Kernel<'a, U> {
 
     /// `unsem s`: s becomes absent; tasks waiting there become ready without it, and a holder loses it.
     pub fn unsem(&mut self, s: u32) -> Reply
-        ensures made { Made urgent (state_of self.old) (Unsem s) result (state_of self.new) }
+        ensures made { Made U.urgent (state_of self.old) (Unsem s) result (state_of self.new) }
         ensures named { self.new.rows.ghost_name ≡ self.old.rows.ghost_name }
     {
         self.make(Call::Unsem(s))
@@ -175,7 +177,7 @@ impl<'a, U: Urgency> Kernel<'a, U> {
 
     /// `lock t s`: t takes s if that is free; if another task holds it, t waits there.
     pub fn lock(&mut self, t: u32, s: u32) -> Reply
-        ensures made { Made urgent (state_of self.old) (Lock t s) result (state_of self.new) }
+        ensures made { Made U.urgent (state_of self.old) (Lock t s) result (state_of self.new) }
         ensures named { self.new.rows.ghost_name ≡ self.old.rows.ghost_name }
     {
         self.make(Call::Lock(t, s))
@@ -183,7 +185,7 @@ impl<'a, U: Urgency> Kernel<'a, U> {
 
     /// `try t s`: t takes s if that is free, and never waits.
     pub fn try_lock(&mut self, t: u32, s: u32) -> Reply
-        ensures made { Made urgent (state_of self.old) (Try t s) result (state_of self.new) }
+        ensures made { Made U.urgent (state_of self.old) (Try t s) result (state_of self.new) }
         ensures named { self.new.rows.ghost_name ≡ self.old.rows.ghost_name }
     {
         self.make(Call::Try(t, s))
@@ -191,7 +193,7 @@ impl<'a, U: Urgency> Kernel<'a, U> {
 
     /// `unlock t s`: s goes to the first task waiting there, which becomes ready; with none it is free.
     pub fn unlock(&mut self, t: u32, s: u32) -> Reply
-        ensures made { Made urgent (state_of self.old) (Unlock t s) result (state_of self.new) }
+        ensures made { Made U.urgent (state_of self.old) (Unlock t s) result (state_of self.new) }
         ensures named { self.new.rows.ghost_name ≡ self.old.rows.ghost_name }
     {
         self.make(Call::Unlock(t, s))
@@ -199,7 +201,7 @@ impl<'a, U: Urgency> Kernel<'a, U> {
 
     /// `release t`: t waits no more, and is ready without the semaphore at which it waited.
     pub fn release(&mut self, t: u32) -> Reply
-        ensures made { Made urgent (state_of self.old) (Release t) result (state_of self.new) }
+        ensures made { Made U.urgent (state_of self.old) (Release t) result (state_of self.new) }
         ensures named { self.new.rows.ghost_name ≡ self.old.rows.ghost_name }
     {
         self.make(Call::Release(t))
@@ -279,7 +281,7 @@ impl<'a, U: Urgency> Kernel<'a, U> {
 
     /// The running task: the first of the ready tasks.
     pub fn running(&self) -> Option<u32>
-        ensures { result ≡ running_of urgent (state_of self.now) }
+        ensures { result ≡ running_of U.urgent (state_of self.now) }
     {
         let ready = self.table.those(Test::Doing(Wait::Ready));
         inheritance::first(self.rows, ready)
@@ -298,9 +300,9 @@ pub fn check_rows<U: Urgency>(rows: &[Row<U>]) -> Result<(), Refusal>
 
 /// Opens a kernel over any rows and makes the calls of the log in turn, noting the reply and the running task after each.
 pub fn run<'a, U: Urgency>(rows: &'a mut [Row<U>], log: &mut [LogEntry<U>]) -> Kernel<'a, U>
-    ensures run { Run urgent rows.old log.new (state_of result) }
+    ensures run { Run U.urgent rows.old log.new (state_of result) }
     ensures calls { calls log.new ≡ calls log.old }
-    ensures lawful { Lawful urgent }
+    ensures lawful { Lawful U.urgent }
     ensures named { result.rows.ghost_name ≡ rows.entry.ghost_name }
 {
     let mut kernel = Kernel::open(rows);

@@ -1,4 +1,6 @@
 //! The rule of each call on the wait table: the refusal that applies first, or the table that comes next.
+#![tactic(auto)]
+
 ghost use Rattle.std.specs.Prelude.{◌≡◌, ℕ, ◌<◌};
 ghost use Rattle.waits.specs.declared.parts.Wait.TheVariants.{AtSemaphore};
 ghost use Rattle.waits.specs.Waits.{doing};
@@ -123,7 +125,7 @@ pub fn unlock<U: Urgency>(
     t: u32,
     s: u32,
 ) -> Result<WaitTable, Refusal>
-    ensures { Judged (first urgent (row_levels rows.now)) (waits_of table.now) (Unlock t s) result }
+    ensures { Judged (first U.urgent (row_levels rows.now)) (waits_of table.now) (Unlock t s) result }
 {
     match caller(table, t, s)? {
         Holder::Free => Err(Refusal::NotHolder),
@@ -201,7 +203,7 @@ fn come(table: &WaitTable, t: u32, s: u32) -> WaitTable
 /// Semaphore s goes to the first task waiting there by the levels in the rows, which becomes ready; with none it is free.
 fn hand_on<U: Urgency>(table: &WaitTable, rows: &[Row<U>], s: u32) -> WaitTable
     requires { s < 64 }
-    ensures { waits_of result ≡ handed (waits_of table.now) s (first urgent (row_levels rows.now) (doing (waits_of table.now) (AtSemaphore s))) }
+    ensures { waits_of result ≡ handed (waits_of table.now) s (first U.urgent (row_levels rows.now) (doing (waits_of table.now) (AtSemaphore s))) }
 {
     let queue = table.those(Test::Doing(Wait::AtSemaphore(s)));
     match first(rows, queue) {

@@ -23,13 +23,13 @@ pub bit_shifted : (m k : ℕ) → m / 2 ^ k % 2 ≡ bit m k
 unfolding bit
 bit_shifted m k = refl
 
-pub bit_and : (a b k : ℕ) → bit (bit_and a b) k ≡ min (bit a k) (bit b k)
+pub bit_of_and : (a b k : ℕ) → bit (bit_and a b) k ≡ min (bit a k) (bit b k)
 unfolding bit
-bit_and a b k = rw and_shr (omega (arith, and_step (a / 2 ^ k) (b / 2 ^ k)))
+bit_of_and a b k = rw and_shr (omega (arith, and_step (a / 2 ^ k) (b / 2 ^ k)))
 
-pub bit_or : (a b k : ℕ) → bit (bit_or a b) k ≡ max (bit a k) (bit b k)
+pub bit_of_or : (a b k : ℕ) → bit (bit_or a b) k ≡ max (bit a k) (bit b k)
 unfolding bit
-bit_or a b k = rw or_shr (omega (arith, or_step (a / 2 ^ k) (b / 2 ^ k)))
+bit_of_or a b k = rw or_shr (omega (arith, or_step (a / 2 ^ k) (b / 2 ^ k)))
 
 pub bit_none : (k : ℕ) → bit 0 k ≡ 0
 bit_none zero = bit_zero 0
@@ -113,13 +113,13 @@ same_bits (suc w) a b h l e =
 -- a union with something new is a larger number
 pub or_grows : (a b k : ℕ) → bit a k ≡ 0 → Has b k → a < bit_or a b
 or_grows a b k n h =
-    let other : bit_or a b ≢ a = λ e. let one : bit a k ≡ 1 = ap (λ x. bit x k) (sym e) ∙ bit_or a b k ∙ omega arith in omega arith in
+    let other : bit_or a b ≢ a = λ e. let one : bit a k ≡ 1 = ap (λ x. bit x k) (sym e) ∙ bit_of_or a b k ∙ omega arith in omega arith in
     omega (arith, or_add_and a b, and_le_r a b)
 
 -- a meet that drops a member is a smaller number
 pub and_falls : (a b k : ℕ) → Has a k → bit b k ≡ 0 → bit_and a b < a
 and_falls a b k h n =
-    let other : bit_and a b ≢ a = λ e. let gone : bit a k ≡ 0 = ap (λ x. bit x k) (sym e) ∙ bit_and a b k ∙ omega arith in omega arith in
+    let other : bit_and a b ≢ a = λ e. let gone : bit a k ≡ 0 = ap (λ x. bit x k) (sym e) ∙ bit_of_and a b k ∙ omega arith in omega arith in
     omega (arith, and_le_l a b)
 
 pub has_or : (a b k : ℕ) → Has (bit_or a b) k → Has a k ⊎ Has b k
@@ -127,13 +127,13 @@ has_or a b k h = go (ℕ_discrete (bit a k) 1)
   where
     go : Dec (Has a k) → Has a k ⊎ Has b k
     go (yes p) = inl p
-    go (no p) = inr (omega (arith, bit_or a b k, bit_le a k, bit_le b k))
+    go (no p) = inr (omega (arith, bit_of_or a b k, bit_le a k, bit_le b k))
 
 pub or_in_left : (a b k : ℕ) → Has a k → Has (bit_or a b) k
-or_in_left a b k h = bit_or a b k ∙ omega (arith, bit_le b k)
+or_in_left a b k h = bit_of_or a b k ∙ omega (arith, bit_le b k)
 
 pub or_in_right : (a b k : ℕ) → Has b k → Has (bit_or a b) k
-or_in_right a b k h = bit_or a b k ∙ omega (arith, bit_le a k)
+or_in_right a b k h = bit_of_or a b k ∙ omega (arith, bit_le a k)
 
 -- a union with a new member is a sum
 pub or_new : (i a : ℕ) → bit a i ≡ 0 → bit_or a (2 ^ i) ≡ a + 2 ^ i
@@ -167,10 +167,10 @@ other_is (suc zero) p = refl
 other_is (suc (suc x)) p = absurd (omega arith)
 
 pub or_has : (a b k : ℕ) → has (bit_or a b) k ≡ (has a k || has b k)
-or_has a b k = ap (λ x. eqb x 1) (bit_or a b k) ∙ either_is (bit a k) (bit b k) (bit_le a k) (bit_le b k)
+or_has a b k = ap (λ x. eqb x 1) (bit_of_or a b k) ∙ either_is (bit a k) (bit b k) (bit_le a k) (bit_le b k)
 
 pub and_has : (a b k : ℕ) → has (bit_and a b) k ≡ (has a k && has b k)
-and_has a b k = ap (λ x. eqb x 1) (bit_and a b k) ∙ both_are (bit a k) (bit b k) (bit_le a k) (bit_le b k)
+and_has a b k = ap (λ x. eqb x 1) (bit_of_and a b k) ∙ both_are (bit a k) (bit b k) (bit_le a k) (bit_le b k)
 
 pub not_has : (w m k : ℕ) → m < 2 ^ w → k < w → has (2 ^ w - 1 - m) k ≡ not (has m k)
 not_has w m k h l = ap (λ x. eqb x 1) (bit_not w m k h l) ∙ other_is (bit m k) (bit_le m k)

@@ -6,7 +6,7 @@ use lib.Pow.{pow-lt}
 use Rattle.std.proofs.lemmas.Bool.{ne_eqb}
 use lib.Count.{ones, ones_step, count_trailing_zeros}
 use Rattle.tasksets.specs.Sets.{bit, Has, has, none, those, those_below, members_below}
-use Rattle.tasksets.proofs.Bits.{bit_le, bit_zero, bit_suc, bit_and, bit_or, bit_none, bit_pow, bit_pow_other, bit_past, has_below, lowest, same_bits, or_new, or_has, and_has, pow_has}
+use Rattle.tasksets.proofs.Bits.{bit_le, bit_zero, bit_suc, bit_of_and, bit_of_or, bit_none, bit_pow, bit_pow_other, bit_past, has_below, lowest, same_bits, or_new, or_has, and_has, pow_has}
 
 -- tests and facts
 pub T_has : (m k : ℕ) → Has m k → T (has m k)
@@ -66,10 +66,10 @@ bit_those (suc n) p i l = subst (λ x. bit (those_below x p) i ≡ as_bit (p i))
 
     go : (x : Bool) → p n ≡ x → Dec (i ≡ n) → (i < n → bit (those_below n p) i ≡ as_bit (p i)) → bit (those_below (n + 1) p) i ≡ as_bit (p i)
     go true e (yes q) before =
-        ap (λ x. bit x i) (sym (those_in p n refl e)) ∙ bit_or (those_below n p) (2 ^ n) i
+        ap (λ x. bit x i) (sym (those_in p n refl e)) ∙ bit_of_or (those_below n p) (2 ^ n) i
         ∙ omega (arith, ap (bit (2 ^ n)) q ∙ bit_pow n, bit_le (those_below n p) i) ∙ ap as_bit (sym (ap p q ∙ e))
     go true e (no q) before =
-        ap (λ x. bit x i) (sym (those_in p n refl e)) ∙ bit_or (those_below n p) (2 ^ n) i
+        ap (λ x. bit x i) (sym (those_in p n refl e)) ∙ bit_of_or (those_below n p) (2 ^ n) i
         ∙ omega (arith, bit_pow_other n i q) ∙ before (omega arith)
     go false e (yes q) before =
         ap (λ x. bit x i) (sym (those_out p n refl e)) ∙ ap (bit (those_below n p)) q ∙ last ∙ ap as_bit (sym (ap p q ∙ e))
@@ -125,10 +125,10 @@ any_all m j h = go (eqb m 0) refl
 pub meets_only : (a m : ℕ) → m < 2 ^ 64 → T (not (none (bit_and a m))) → (j : ℕ) × Has a j × Has m j
 meets_only a m l t =
     let (j, h) = any_only (bit_and a m) (omega (arith, and_le_r a m)) t in
-    (j, omega (arith, bit_and a m j, h, bit_le a j, bit_le m j), omega (arith, bit_and a m j, h, bit_le a j, bit_le m j))
+    (j, omega (arith, bit_of_and a m j, h, bit_le a j, bit_le m j), omega (arith, bit_of_and a m j, h, bit_le a j, bit_le m j))
 
 pub meets_all : (a m j : ℕ) → Has a j → Has m j → T (not (none (bit_and a m)))
-meets_all a m j h k = any_all (bit_and a m) j (omega (arith, bit_and a m j))
+meets_all a m j h k = any_all (bit_and a m) j (omega (arith, bit_of_and a m j))
 
 -- a part of a set has fewer members, unless it is the set
 pub fewer : (w a b : ℕ) → a < 2 ^ w → b < 2 ^ w → ((i : ℕ) → bit a i ≤ bit b i) → (ones a ≤ ones b) × (ones a ≡ ones b → a ≡ b)

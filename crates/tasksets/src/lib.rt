@@ -1,4 +1,6 @@
 //! Sets of tasks as the bits of one number.
+#![tactic(auto)]
+
 ghost use Rattle.std.specs.Prelude.{◌≡◌, ℕ, ◌<◌, ◌≤◌, not, ◌&&◌, ◌||◌, MatchOption, ◌==◌};
 ghost use Rattle.tasksets.specs.Sets.{Has, has, Smallest, members_below};
 

@@ -1,4 +1,6 @@
 //! Orders of urgency, two of them, and the more urgent of two.
+#![tactic(auto)]
+
 ghost use Rattle.std.specs.Prelude.{◌≡◌, Bool, T, ◌⊎◌, Some};
 ghost use Rattle.std.proofs.Common.{leb→le, arith, rules};
 ghost use Rattle.urgency.specs.Order.{above, upper, same};
@@ -69,7 +71,7 @@ impl Urgency for Deadline {
 
 /// Whether the first is at least as urgent as the second; no urgency at all is the least.
 pub fn at_least<U: Urgency>(a: Option<U>, b: Option<U>) -> bool
-    ensures { result ≡ above urgent a b }
+    ensures { result ≡ above U.urgent a b }
 {
     match (a, b) {
         (_, None) => true,
@@ -80,14 +82,14 @@ pub fn at_least<U: Urgency>(a: Option<U>, b: Option<U>) -> bool
 
 /// The more urgent of two, and the first where they are equal.
 pub fn most_urgent<U: Urgency>(a: Option<U>, b: Option<U>) -> Option<U>
-    ensures { result ≡ upper urgent a b }
+    ensures { result ≡ upper U.urgent a b }
 {
     if at_least(a, b) { a } else { b }
 }
 
 /// Whether two are of the same urgency.
 pub fn same_urgency<U: Urgency>(a: Option<U>, b: Option<U>) -> bool
-    ensures { result ≡ same urgent a b }
+    ensures { result ≡ same U.urgent a b }
 {
     at_least(a, b) && at_least(b, a)
 }

@@ -4,7 +4,7 @@ use native.Mathlib.Decide.{ℕ_discrete}
 use lib.Bits.{bit_and, bit_or, or_lt, and_le_r, or_zero_r}
 use lib.Pow.{pow-lt}
 use Rattle.tasksets.specs.Sets.{bit, Has}
-use Rattle.tasksets.proofs.Bits.{bit_le, bit_and, bit_or, bit_not, bit_pow, bit_pow_other, bit_none, has_below, has_or, has_pow, or_grows}
+use Rattle.tasksets.proofs.Bits.{bit_le, bit_of_and, bit_of_or, bit_not, bit_pow, bit_pow_other, bit_none, has_below, has_or, has_pow, or_grows}
 use Rattle.waits.specs.Chain.{Chain, here, step, Reached}
 use Rattle.waits.proofs.Chains.{after}
 
@@ -24,7 +24,7 @@ module _ {awaits : ℕ → ℕ → Type 0} {start : ℕ} where
     seen< = omega arith;
     todo< = pow-lt l;
     apart = λ k. omega (arith, bit_none k, bit_le (2 ^ start) k);
-    from = λ _. omega (arith, bit_or 0 (2 ^ start) start, bit_pow start, bit_none start);
+    from = λ _. omega (arith, bit_of_or 0 (2 ^ start) start, bit_pow start, bit_none start);
     next = λ i j b a. absurd (omega (arith, bit_none i));
     only = λ k b. ⊎_elim (λ h. absurd (omega (arith, bit_none k))) (λ h. subst (Chain awaits start) (sym (has_pow start k h)) here) (has_or 0 (2 ^ start) k b);
   }
@@ -81,15 +81,15 @@ module _ {awaits : ℕ → ℕ → Type 0} {start : ℕ} where
           × (bit (bit_or (bit_or seen (2 ^ i)) new) k ≡ max (bit (bit_or seen todo) k) (bit row k))
       turn k l =
           let now = bit_or seen (2 ^ i) in
-          let b : bit new k ≡ _ = ap (λ x. bit x k) e ∙ bit_and (bit_or todo row) (2 ^ 64 - 1 - now) k in
+          let b : bit new k ≡ _ = ap (λ x. bit x k) e ∙ bit_of_and (bit_or todo row) (2 ^ 64 - 1 - now) k in
           omega (
             arith,
             b,
-            bit_or todo row k,
+            bit_of_or todo row k,
             bit_not 64 now k now< l,
-            bit_or seen (2 ^ i) k,
-            bit_or now new k,
-            bit_or seen todo k,
+            bit_of_or seen (2 ^ i) k,
+            bit_of_or now new k,
+            bit_of_or seen todo k,
             in_todo k,
             bit_le seen k,
             bit_le todo k,
@@ -125,4 +125,4 @@ module _ {awaits : ℕ → ℕ → Type 0} {start : ℕ} where
               by (yes p) = s.only k p
               by (no p) =
                   let in_row : Has row k = omega (arith, turn k (wide k b), bit_le (bit_or seen todo) k, bit_le row k) in
-                  after (s.only i (bit_or seen todo i ∙ omega (arith, bit_le seen i))) (edge k in_row)
+                  after (s.only i (bit_of_or seen todo i ∙ omega (arith, bit_le seen i))) (edge k in_row)

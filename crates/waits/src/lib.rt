@@ -1,4 +1,6 @@
 //! The wait table: what is present, who waits for what, and the tasks along a chain.
+#![tactic(auto)]
+
 ghost use Rattle.std.specs.Prelude.{◌≡◌, ℕ, ◌<◌, ◌&&◌, ◌||◌, Some, None, ◌==◌, slice_index};
 ghost use Rattle.tasksets.specs.Sets.{Has, has, those};
 ghost use Rattle.waits.specs.Chain.{Reached};

@@ -13,11 +13,11 @@ loop-i-preserved g c =
     let urgent = g.U.Urgency.urgent in
     let value = (held c.args.table.now c.args.rows.now).base in
     subst (Taking urgent value c.args.set c.without-left.result)
-    (sym (c.most-urgent-top.ensures ∙ ap (upper urgent c.loop-i.top) c.base-in.ensures))
+    (sym (c.most_urgent-top.ensures ∙ ap (upper urgent c.loop-i.top) c.base_in.ensures))
     (taking_turn urgent value c.args.set c.loop-i.left c.without-left.result c.in-Some.i c.loop-i.top c.loop-i.invariant c.in-Some.ensures.0 c.in-Some.ensures.1 c.without-left.ensures.members)
 
 pub returns : goal.returns
 returns g c =
     let urgent = g.U.Urgency.urgent in
     let value = (held c.args.table.now c.args.rows.now).base in
-    taking_end urgent value c.args.set c.loop-i.top (subst (λ m. Taking urgent value c.args.set m c.loop-i.top) c.in-default.ensures c.loop-i.invariant) (λ j. ap (λ b. eqb b 1) (bit_none j))
+    taking_end urgent value c.args.set c.loop-i.top (subst (λ m. Taking urgent value c.args.set m c.loop-i.top) c.in_default.ensures c.loop-i.invariant) (λ j. ap (λ b. eqb b 1) (bit_none j))

@@ -10,9 +10,9 @@ pub returns-then-t-gt63 : goal.returns-then-t-gt63
 unfolding refusals
 returns-then-t-gt63 c = rw (over c.args.t c.if-t-gt63.true)
 
-pub returns-in-default : goal.returns-in-default
+pub returns-in_default : goal.returns-in_default
 unfolding refusals
-returns-in-default c =
+returns-in_default c =
     let o = (waits_of c.args.table.now).tasks c.args.t in
     let e : o ≡ None = cc in
     rw (under c.args.t c.if-t-gt63.false, missing o e)

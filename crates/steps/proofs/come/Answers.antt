@@ -13,8 +13,8 @@ take-requires c =
     let e : w.semaphores c.args.s ≡ Some Free = cc in
     record { task = c.requires.task; semaphore = (facts_of c.args.table.now).sound.semaphores< c.args.s (subst (λ o. T (is_some o)) (sym e) tt) }
 
-pub with-task-requires : goal.with-task-requires
-with-task-requires c =
+pub with_task-requires : goal.with_task-requires
+with_task-requires c =
     let w = waits_of c.args.table.now in
     let f = facts_of c.args.table.now in
     let e : w.semaphores c.args.s ≡ Some (HeldBy c.in-HeldBy.field-0) = cc in

@@ -11,8 +11,8 @@ use Rattle.book.proofs.Firsts.{first_picked, first_has}
 use Rattle.inheritance.specs.Rows.{row_levels}
 use Rattle.steps.proofs.hand_on.Goals as goal
 
-pub with-semaphore-requires : goal.with-semaphore-requires
-with-semaphore-requires g c =
+pub with_semaphore-requires : goal.with_semaphore-requires
+with_semaphore-requires g c =
     let w = waits_of c.args.table.now in
     let f = facts_of c.args.table.now in
     let lev = row_levels c.args.rows.now in

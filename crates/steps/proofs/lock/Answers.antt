@@ -15,15 +15,15 @@ use Rattle.waits.proofs.Changes.{queued_sound, task_queued, ring_queued}
 use Rattle.steps.proofs.Judging.{lock_opening, lock_free, lock_own, lock_ring, lock_waits}
 use Rattle.steps.proofs.lock.Goals as goal
 
-pub returns-in-err-caller : goal.returns-in-err-caller
-returns-in-err-caller c =
-    let p = err_from_is_err_and c.from-residual.result c.from-residual.ensures.1 in
-    rw (p.1, p.2) (lock_opening (waits_of c.args.table.now) c.args.t c.args.s c.in-err-caller.field-0.0 c.in-err-caller.ensures)
+pub returns-in_err-caller : goal.returns-in_err-caller
+returns-in_err-caller c =
+    let p = err_from_is_err_and c.from_residual.result c.from_residual.ensures.1 in
+    rw (p.1, p.2) (lock_opening (waits_of c.args.table.now) c.args.t c.args.s c.in_err-caller.field-0.0 c.in_err-caller.ensures)
 
-pub with-task-requires : goal.with-task-requires
-with-task-requires c =
+pub with_task-requires : goal.with_task-requires
+with_task-requires c =
     let w = waits_of c.args.table.now in
-    let (_, low, _, e, d) = c.in-ok-caller.ensures in
+    let (_, low, _, e, d) = c.in_ok-caller.ensures in
     let h = c.in-HeldBy.h in
     let held : w.semaphores c.args.s ≡ Some (HeldBy h) = d ∙ ap Some c.in-HeldBy.is in
     let apart : (Chain (Awaits w) h c.args.t → ⊥) = λ chain. subst T (sym c.if-contains.ensures) (T_has c.reached.result c.args.t (c.reached.ensures.all c.args.t low chain)) in
@@ -32,19 +32,19 @@ with-task-requires c =
 pub returns-in-Free : goal.returns-in-Free
 returns-in-Free c =
     let w = waits_of c.args.table.now in
-    let (clear, _, _, _, d) = c.in-ok-caller.ensures in
+    let (clear, _, _, _, d) = c.in_ok-caller.ensures in
     let free : w.semaphores c.args.s ≡ Some Free = d ∙ ap Some c.in-Free.is in
     (lock_free w c.args.t c.args.s clear free (subst Facts c.take.ensures (facts_of c.take.result)), c.take.ensures ∙ sym (ap (come_to w c.args.t c.args.s) free))
 
 pub returns-in-HeldBy : goal.returns-in-HeldBy
 returns-in-HeldBy c =
-    let (clear, _, _, _, d) = c.in-ok-caller.ensures in
+    let (clear, _, _, _, d) = c.in_ok-caller.ensures in
     lock_own (waits_of c.args.table.now) c.args.t c.args.s clear c.in-HeldBy.h (d ∙ ap Some c.in-HeldBy.is) c.if-h-t.true
 
 pub returns-in-HeldBy-2 : goal.returns-in-HeldBy-2
 returns-in-HeldBy-2 c =
     let w = waits_of c.args.table.now in
-    let (clear, _, _, e, d) = c.in-ok-caller.ensures in
+    let (clear, _, _, e, d) = c.in_ok-caller.ensures in
     let h = c.in-HeldBy.h in
     let held : w.semaphores c.args.s ≡ Some (HeldBy h) = d ∙ ap Some c.in-HeldBy.is in
     let chain : Chain (Awaits w) h c.args.t = c.reached.ensures.only c.args.t (has_T c.reached.result c.args.t (subst T c.if-contains.ensures tt)) in
@@ -55,7 +55,7 @@ returns-in-HeldBy-2 c =
 pub returns-in-HeldBy-3 : goal.returns-in-HeldBy-3
 returns-in-HeldBy-3 c =
     let w = waits_of c.args.table.now in
-    let (clear, _, _, _, d) = c.in-ok-caller.ensures in
+    let (clear, _, _, _, d) = c.in_ok-caller.ensures in
     let h = c.in-HeldBy.h in
     let held : w.semaphores c.args.s ≡ Some (HeldBy h) = d ∙ ap Some c.in-HeldBy.is in
     (lock_waits w c.args.t c.args.s clear h held c.if-h-t.false (subst Facts c.with_task.ensures (facts_of c.with_task.result)), c.with_task.ensures ∙ sym (ap (come_to w c.args.t c.args.s) held))

@@ -19,9 +19,9 @@ pub returns-then-t-gt63 : goal.returns-then-t-gt63
 unfolding refusals
 returns-then-t-gt63 c = rw (over c.args.t c.if-t-gt63.true)
 
-pub returns-in-default : goal.returns-in-default
+pub returns-in_default : goal.returns-in_default
 unfolding refusals
-returns-in-default c =
+returns-in_default c =
     let o = (waits_of c.args.table.now).tasks c.args.t in
     let e : o ≡ None = cc in
     rw (under c.args.t c.if-t-gt63.false, missing o e)
@@ -38,8 +38,8 @@ fine : (w : Waits) (t : ℕ) → t ≤ 63 → (v : Wait) → w.tasks t ≡ Some 
 unfolding refusals
 fine w t l v e ne f = rw (under t l, not_missing (w.tasks t) v e, waits (w.tasks t) v e ne, ring_false (released w t) f)
 
-pub with-task-requires : goal.with-task-requires
-with-task-requires c =
+pub with_task-requires : goal.with_task-requires
+with_task-requires c =
     let w = waits_of c.args.table.now in
     let e : w.tasks c.args.t ≡ Some c.in-Some.wait = cc in
     record { low = omega arith; facts = task_freed w c.args.t (facts_of c.args.table.now) (subst (λ o. T (is_some o)) (sym e) tt) }
@@ -53,8 +53,8 @@ returns-in-AtSemaphore c =
     (fine w c.args.t c.if-t-gt63.false v e (λ q. ready_at (sym q)) (subst Facts left (facts_of c.with_task.result)), left)
 
 -- a condition on which a task waits is there
-pub returns-in-default-condition : goal.returns-in-default-condition
-returns-in-default-condition c =
+pub returns-in_default-condition : goal.returns-in_default-condition
+returns-in_default-condition c =
     let w = waits_of c.args.table.now in
     let e : w.tasks c.args.t ≡ Some (OnCondition c.in-OnCondition.c) = cc in
     let none : w.conditions c.in-OnCondition.c ≡ None = cc in

@@ -17,16 +17,16 @@ pub returns-then-s-gt63 : goal.returns-then-s-gt63
 unfolding refusals
 returns-then-s-gt63 c = rw (over c.args.s c.if-s-gt63.true)
 
-pub returns-in-default : goal.returns-in-default
+pub returns-in_default : goal.returns-in_default
 unfolding refusals
-returns-in-default c = go ((waits_of c.args.table.now).semaphores c.args.s) refl
+returns-in_default c = go ((waits_of c.args.table.now).semaphores c.args.s) refl
   where
     go : (o : Option Holder) → (waits_of c.args.table.now).semaphores c.args.s ≡ o → refusal nobody (waits_of c.args.table.now) (Sem c.args.s) ≡ Some AlreadyThere
     go (Some v) e = rw (under c.args.s c.if-s-gt63.false, there ((waits_of c.args.table.now).semaphores c.args.s) v e)
-    go None e = absurd (c.in-default.not-None (c.semaphore.ensures ∙ e))
+    go None e = absurd (c.in_default.not-None (c.semaphore.ensures ∙ e))
 
-pub with-semaphore-requires : goal.with-semaphore-requires
-with-semaphore-requires c =
+pub with_semaphore-requires : goal.with_semaphore-requires
+with_semaphore-requires c =
     let w = waits_of c.args.table.now in
     let f = facts_of c.args.table.now in
     record { low = omega arith; facts = semaphore_freed w c.args.s f (omega arith) (absent_unawaited w f.sound c.args.s (λ h. subst (λ o. T (is_some o)) (sym c.in-None.ensures) h)) }

@@ -7,14 +7,14 @@ use Rattle.waits.proofs.Tables.{facts_of}
 use Rattle.waits.proofs.Changes.{task_freed, task_taken}
 use Rattle.steps.proofs.take.Goals as goal
 
-pub with-task-ready-requires : goal.with-task-ready-requires
-with-task-ready-requires c =
+pub with_task-ready-requires : goal.with_task-ready-requires
+with_task-ready-requires c =
     let f = facts_of c.args.table.now in
     record { low = f.sound.tasks< c.args.t c.requires.task; facts = task_freed (waits_of c.args.table.now) c.args.t f c.requires.task }
 
-pub with-semaphore-requires : goal.with-semaphore-requires
-with-semaphore-requires c = record {
+pub with_semaphore-requires : goal.with_semaphore-requires
+with_semaphore-requires c = record {
   low = c.requires.semaphore;
-  facts = subst (λ w. Facts (with_semaphore w c.args.s (Some (HeldBy c.args.t)))) (sym c.with-task-ready.ensures)
+  facts = subst (λ w. Facts (with_semaphore w c.args.s (Some (HeldBy c.args.t)))) (sym c.with_task-ready.ensures)
       (task_taken (waits_of c.args.table.now) c.args.t c.args.s (facts_of c.args.table.now) c.requires.task c.requires.semaphore);
 }

@@ -16,16 +16,16 @@ pub returns-then-t-gt63 : goal.returns-then-t-gt63
 unfolding refusals
 returns-then-t-gt63 c = rw (over c.args.t c.if-t-gt63.true)
 
-pub returns-in-default : goal.returns-in-default
+pub returns-in_default : goal.returns-in_default
 unfolding refusals
-returns-in-default c = go ((waits_of c.args.table.now).tasks c.args.t) refl
+returns-in_default c = go ((waits_of c.args.table.now).tasks c.args.t) refl
   where
     go : (o : Option Wait) → (waits_of c.args.table.now).tasks c.args.t ≡ o → refusal nobody (waits_of c.args.table.now) (Task c.args.t tt) ≡ Some AlreadyThere
     go (Some v) e = rw (under c.args.t c.if-t-gt63.false, there ((waits_of c.args.table.now).tasks c.args.t) v e)
-    go None e = absurd (c.in-default.not-None (c.task.ensures ∙ e))
+    go None e = absurd (c.in_default.not-None (c.task.ensures ∙ e))
 
-pub with-task-requires : goal.with-task-requires
-with-task-requires c = record { low = omega arith; facts = task_made (waits_of c.args.table.now) c.args.t (facts_of c.args.table.now) (omega arith) (sym c.in-None.ensures) }
+pub with_task-requires : goal.with_task-requires
+with_task-requires c = record { low = omega arith; facts = task_made (waits_of c.args.table.now) c.args.t (facts_of c.args.table.now) (omega arith) (sym c.in-None.ensures) }
 
 pub returns : goal.returns
 unfolding refusals

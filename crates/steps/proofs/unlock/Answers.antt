@@ -8,25 +8,25 @@ use Rattle.inheritance.specs.Rows.{row_levels}
 use Rattle.steps.proofs.Judging.{unlock_opening, unlock_free, unlock_fine, unlock_other}
 use Rattle.steps.proofs.unlock.Goals as goal
 
-pub returns-in-err-caller : goal.returns-in-err-caller
-returns-in-err-caller g c =
-    let p = err_from_is_err_and c.from-residual.result c.from-residual.ensures.1 in
-    rw (p.1, p.2) (unlock_opening (waits_of c.args.table.now) c.args.t c.args.s (first g.U.Urgency.urgent (row_levels c.args.rows.now)) c.in-err-caller.field-0.0 c.in-err-caller.ensures)
+pub returns-in_err-caller : goal.returns-in_err-caller
+returns-in_err-caller g c =
+    let p = err_from_is_err_and c.from_residual.result c.from_residual.ensures.1 in
+    rw (p.1, p.2) (unlock_opening (waits_of c.args.table.now) c.args.t c.args.s (first g.U.Urgency.urgent (row_levels c.args.rows.now)) c.in_err-caller.field-0.0 c.in_err-caller.ensures)
 
-pub hand-on-requires : goal.hand-on-requires
-hand-on-requires g c = c.in-ok-caller.ensures.2
+pub hand_on-requires : goal.hand_on-requires
+hand_on-requires g c = c.in_ok-caller.ensures.2
 
 pub returns-in-HeldBy : goal.returns-in-HeldBy
 returns-in-HeldBy g c =
-    let (clear, _, _, _, d) = c.in-ok-caller.ensures in
-    (unlock_fine (waits_of c.args.table.now) c.args.t c.args.s clear c.in-HeldBy.h (d ∙ ap Some c.in-HeldBy.is) (first g.U.Urgency.urgent (row_levels c.args.rows.now)) c.if-h-t.true (subst Facts c.hand-on.ensures (facts_of c.hand-on.result)), c.hand-on.ensures)
+    let (clear, _, _, _, d) = c.in_ok-caller.ensures in
+    (unlock_fine (waits_of c.args.table.now) c.args.t c.args.s clear c.in-HeldBy.h (d ∙ ap Some c.in-HeldBy.is) (first g.U.Urgency.urgent (row_levels c.args.rows.now)) c.if-h-t.true (subst Facts c.hand_on.ensures (facts_of c.hand_on.result)), c.hand_on.ensures)
 
 pub returns-in-HeldBy-2 : goal.returns-in-HeldBy-2
 returns-in-HeldBy-2 g c =
-    let (clear, _, _, _, d) = c.in-ok-caller.ensures in
+    let (clear, _, _, _, d) = c.in_ok-caller.ensures in
     unlock_other (waits_of c.args.table.now) c.args.t c.args.s clear c.in-HeldBy.h (d ∙ ap Some c.in-HeldBy.is) (first g.U.Urgency.urgent (row_levels c.args.rows.now)) c.if-h-t.false
 
 pub returns-in-Free : goal.returns-in-Free
 returns-in-Free g c =
-    let (clear, _, _, _, d) = c.in-ok-caller.ensures in
+    let (clear, _, _, _, d) = c.in_ok-caller.ensures in
     unlock_free (waits_of c.args.table.now) c.args.t c.args.s clear (first g.U.Urgency.urgent (row_levels c.args.rows.now)) (d ∙ ap Some c.in-Free.is)

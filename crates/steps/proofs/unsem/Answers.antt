@@ -16,28 +16,28 @@ pub returns-then-s-gt63 : goal.returns-then-s-gt63
 unfolding refusals
 returns-then-s-gt63 c = rw (over c.args.s c.if-s-gt63.true)
 
-pub returns-in-default : goal.returns-in-default
+pub returns-in_default : goal.returns-in_default
 unfolding refusals
-returns-in-default c =
+returns-in_default c =
     let w = waits_of c.args.table.now in
     let e : w.semaphores c.args.s ≡ None = cc in
     rw (under c.args.s c.if-s-gt63.false, missing (w.semaphores c.args.s) e)
 
-pub returns-then-has-condition : goal.returns-then-has-condition
+pub returns-then-has_condition : goal.returns-then-has_condition
 unfolding refusals
-returns-then-has-condition c =
+returns-then-has_condition c =
     let w = waits_of c.args.table.now in
     let e : w.semaphores c.args.s ≡ Some c.in-Some.field-0 = cc in
-    rw (under c.args.s c.if-s-gt63.false, not_missing (w.semaphores c.args.s) c.in-Some.field-0 e, sym c.if-has-condition.ensures)
+    rw (under c.args.s c.if-s-gt63.false, not_missing (w.semaphores c.args.s) c.in-Some.field-0 e, sym c.if-has_condition.ensures)
 
 pub turned-awake-requires : goal.turned-awake-requires
 turned-awake-requires c = queue_freed (waits_of c.args.table.now) c.args.s (facts_of c.args.table.now)
 
-pub with-semaphore-requires : goal.with-semaphore-requires
-with-semaphore-requires c =
+pub with_semaphore-requires : goal.with_semaphore-requires
+with_semaphore-requires c =
     let w = waits_of c.args.table.now in
     let f = facts_of c.args.table.now in
-    let none : (T (has_condition w c.args.s) → ⊥) = λ h. subst T (sym c.if-has-condition.ensures) h in
+    let none : (T (has_condition w c.args.s) → ⊥) = λ h. subst T (sym c.if-has_condition.ensures) h in
     record {
       low = omega arith;
       facts = subst (λ w. Facts (with_semaphore w c.args.s None)) (sym c.turned-awake.ensures) (unsem_facts w c.args.s f (belongs_none w f.sound c.args.s none));
@@ -49,4 +49,4 @@ returns c =
     let w = waits_of c.args.table.now in
     let e : w.semaphores c.args.s ≡ Some c.in-Some.field-0 = cc in
     let left : waits_of c.with_semaphore.result ≡ with_semaphore (turned w (AtSemaphore c.args.s) Ready) c.args.s None = c.with_semaphore.ensures ∙ ap (λ w. with_semaphore w c.args.s None) c.turned-awake.ensures in
-    (rw (under c.args.s c.if-s-gt63.false, not_missing (w.semaphores c.args.s) c.in-Some.field-0 e, sym c.if-has-condition.ensures, ring_false _ (subst Facts left (facts_of c.with_semaphore.result))), left)
+    (rw (under c.args.s c.if-s-gt63.false, not_missing (w.semaphores c.args.s) c.in-Some.field-0 e, sym c.if-has_condition.ensures, ring_false _ (subst Facts left (facts_of c.with_semaphore.result))), left)

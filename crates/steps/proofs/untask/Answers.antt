@@ -15,41 +15,41 @@ pub returns-then-t-gt63 : goal.returns-then-t-gt63
 unfolding refusals
 returns-then-t-gt63 c = rw (over c.args.t c.if-t-gt63.true)
 
-pub returns-in-default : goal.returns-in-default
+pub returns-in_default : goal.returns-in_default
 unfolding refusals
-returns-in-default c =
+returns-in_default c =
     let o = (waits_of c.args.table.now).tasks c.args.t in
     let e : o ≡ None = cc in
     rw (under c.args.t c.if-t-gt63.false, missing o e)
 
-pub returns-in-default-wait : goal.returns-in-default-wait
+pub returns-in_default-wait : goal.returns-in_default-wait
 unfolding refusals
-returns-in-default-wait c =
+returns-in_default-wait c =
     let o = (waits_of c.args.table.now).tasks c.args.t in
     let e : o ≡ Some c.in-Some.wait = cc in
-    rw (under c.args.t c.if-t-gt63.false, not_missing o c.in-Some.wait e, waits o c.in-Some.wait e c.in-default-wait.not-Ready)
+    rw (under c.args.t c.if-t-gt63.false, not_missing o c.in-Some.wait e, waits o c.in-Some.wait e c.in_default-wait.not-Ready)
 
-pub returns-then-in-use : goal.returns-then-in-use
+pub returns-then-in_use : goal.returns-then-in_use
 unfolding refusals
-returns-then-in-use c =
+returns-then-in_use c =
     let o = (waits_of c.args.table.now).tasks c.args.t in
     let e : o ≡ Some Ready = cc in
-    rw (under c.args.t c.if-t-gt63.false, not_missing o Ready e, waits_not o e, sym c.if-in-use.ensures)
+    rw (under c.args.t c.if-t-gt63.false, not_missing o Ready e, waits_not o e, sym c.if-in_use.ensures)
 
 -- what neither holds nor helps can end
-ended : (c : goal.After-with-task-arg·1) → Facts (with_task (waits_of c.args.table.now) c.args.t None)
+ended : (c : goal.After-with_task-arg·1) → Facts (with_task (waits_of c.args.table.now) c.args.t None)
 ended c =
     let w = waits_of c.args.table.now in
     let f = facts_of c.args.table.now in
-    let free : (T (in_use w c.args.t) → ⊥) = λ h. subst T (sym c.if-in-use.ensures) h in
+    let free : (T (in_use w c.args.t) → ⊥) = λ h. subst T (sym c.if-in_use.ensures) h in
     task_ended w c.args.t f (helps_none w f.sound c.args.t free) (holds_none w f.sound c.args.t free)
 
-pub with-task-requires : goal.with-task-requires
-with-task-requires c = record { low = omega arith; facts = ended c }
+pub with_task-requires : goal.with_task-requires
+with_task-requires c = record { low = omega arith; facts = ended c }
 
 pub returns : goal.returns
 unfolding refusals
 returns c =
     let o = (waits_of c.args.table.now).tasks c.args.t in
     let e : o ≡ Some Ready = cc in
-    (rw (under c.args.t c.if-t-gt63.false, not_missing o Ready e, waits_not o e, sym c.if-in-use.ensures, ring_false _ (subst Facts c.with_task.ensures (facts_of c.with_task.result))), c.with_task.ensures)
+    (rw (under c.args.t c.if-t-gt63.false, not_missing o Ready e, waits_not o e, sym c.if-in_use.ensures, ring_false _ (subst Facts c.with_task.ensures (facts_of c.with_task.result))), c.with_task.ensures)

@@ -9,4 +9,4 @@ loop-t-preserved c =
     adding_turn c.args.to c.args.i c.args.sets.now c.with.result c.loop-t.invariant (ap (λ b. eqb b 1) c.in-Some.ensures.0.member) (omega (arith, c.in-Some.ensures.1)) c.without-left.ensures.members c.with.ensures refl
 
 pub returns : goal.returns
-returns c = λ t j l b. c.loop-t.invariant.done t j b (ap (λ m. has m t) c.in-default.ensures ∙ ap (λ b. eqb b 1) (bit_none t))
+returns c = λ t j l b. c.loop-t.invariant.done t j b (ap (λ m. has m t) c.in_default.ensures ∙ ap (λ b. eqb b 1) (bit_none t))

@@ -12,8 +12,8 @@ held c = cc
 low : (c : goal.In-HeldBy) → c.in-HeldBy.h < 64
 low c = holder_below (waits_of c.args.self.now) (facts_of c.args.self.now).sound c.in-AtSemaphore.s c.in-HeldBy.h (held c)
 
-pub overflow-shl-result : goal.overflow-shl-result
-overflow-shl-result c = low c
+pub overflow_shl-result : goal.overflow_shl-result
+overflow_shl-result c = low c
 
 pub returns-in-HeldBy : goal.returns-in-HeldBy
 returns-in-HeldBy c =

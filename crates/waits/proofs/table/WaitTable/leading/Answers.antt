@@ -12,7 +12,7 @@ loop-i-init c = λ t j l b. ap (λ m. has m j) (zeros_at 64 t) ∙ ap (λ b. eqb
 pub loop-i-preserved : goal.loop-i-preserved
 loop-i-preserved c = λ t j l b.
     let p = has (leading (waits_of c.args.self.now) t) in
-    c.add-to-each.ensures t j l b ∙ ap (λ x. x || (has c.reached-along.result t && eqb j c.loop-i.i)) (c.loop-i.invariant t j l b)
+    c.add_to_each.ensures t j l b ∙ ap (λ x. x || (has c.reached-along.result t && eqb j c.loop-i.i)) (c.loop-i.invariant t j l b)
     ∙ ap (λ x. (p j && ltb j c.loop-i.i) || (x && eqb j c.loop-i.i)) (reached_leads c.args.self.now c.loop-i.i t c.reached-along.result l c.reached-along.ensures)
     ∙ below_more p j c.loop-i.i
 

@@ -18,7 +18,7 @@ loop-i-preserved c =
     let n = c.loop-i.i in
     elim c.if-passes.branch [
       | then-passes w ↦
-          w.set-is ∙ with_or c.loop-i.set n w.with-set.result (set< n c.loop-i.set p c.loop-i-test.true c.loop-i.invariant) w.with-set.type-inv w.with-set.ensures c.loop-i-test.true
+          w.set-is ∙ with_or c.loop-i.set n w.with-set.result (set< n c.loop-i.set p c.loop-i-test.true c.loop-i.invariant) w.with-set.type_inv w.with-set.ensures c.loop-i-test.true
           ∙ those_in p n c.loop-i.invariant (sym w.if-passes.ensures)
       | else-passes w ↦ w.set-is ∙ those_out p n c.loop-i.invariant (sym w.if-passes.ensures)
     ]
