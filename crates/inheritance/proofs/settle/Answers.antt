@@ -19,10 +19,10 @@ loop-t-preserved g c =
     c.loop-t-test.true (λ j b. c.leading-leading.ensures n j c.loop-t-test.true b) c.most-level.ensures c.put_level.ensures.here c.put_level.ensures.others in
     let found : c.if-differs.changed ≡ those_below (n + 1) p = elim c.if-differs.branch [
       | then-differs w ↦
-          w.changed_is
+          w.changed-is
           ∙ with_or c.loop-t.changed n w.with-changed.result (settling_lt urgent c.args.table.now c.args.standing c.args.rows.now n c.loop-t.changed c.loop-t-test.true c.loop-t.invariant.found) w.with-changed.type_inv w.with-changed.ensures c.loop-t-test.true
           ∙ those_in p n c.loop-t.invariant.found (sym told ∙ sym w.if-differs.ensures)
-      | else-differs w ↦ w.changed_is ∙ those_out p n c.loop-t.invariant.found (sym told ∙ sym w.if-differs.ensures)
+      | else-differs w ↦ w.changed-is ∙ those_out p n c.loop-t.invariant.found (sym told ∙ sym w.if-differs.ensures)
     ] in
     settling_turn urgent c.args.table.now c.args.standing c.args.rows.now n c.loop-t.rows c.put_level.new.rows c.loop-t.changed c.if-differs.changed set c.most-level.result c.loop-t.invariant
     c.loop-t-test.true (λ j b. c.leading-leading.ensures n j c.loop-t-test.true b) c.most-level.ensures c.put_level.ensures.here c.put_level.ensures.others found

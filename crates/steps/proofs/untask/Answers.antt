@@ -37,7 +37,7 @@ returns-then-in_use c =
     rw (under c.args.t c.if-t-gt63.false, not_missing o Ready e, waits_not o e, sym c.if-in_use.ensures)
 
 -- what neither holds nor helps can end
-ended : (c : goal.After-with_task-arg·1) → Facts (with_task (waits_of c.args.table.now) c.args.t None)
+ended : (c : goal.After-with_task-arg-1) → Facts (with_task (waits_of c.args.table.now) c.args.t None)
 ended c =
     let w = waits_of c.args.table.now in
     let f = facts_of c.args.table.now in
