@@ -1,5 +1,6 @@
 //! The calls, the questions and the running task at their edges.
 #![tactic(auto)]
+
 #[cfg(test)]
 mod tests {
     use book::{Call, Refusal, Row};
@@ -529,24 +530,25 @@ mod tests {
     fn make_each(rt: &impl Abort, rows: &mut [Row<Grade>], cases: &[Case]) -> Result<(), Fail> {
         let mut kernel = Kernel::open(rows);
         assert_eq!(rt; kernel.running(), None);
-        make_all(rt, &mut kernel, cases)
+        make_all(rt, "case", &mut kernel, cases)
     }
 
     // Makes the call of each case.
     fn make_all<V: Copy, U: Written<V>>(
         rt: &impl Abort,
+        name: &str,
         kernel: &mut Kernel<'_, U>,
         cases: &[CaseOf<V>],
     ) -> Result<(), Fail> {
         for (i, (call, reply, running)) in cases.iter().enumerate() {
-            assert_eq!(rt; plain(kernel.make(read(*call)?)), *reply, "{}", i);
-            assert_eq!(rt; kernel.running(), *running, "{}", i);
+            assert_eq!(rt; plain(kernel.make(read(*call)?)), *reply, "{name}, {i}");
+            assert_eq!(rt; kernel.running(), *running, "{name}, {i}");
         }
         Ok(())
     }
 
     // Each row holds base 7 and level 9, but those that are listed: by number, with what they hold.
-    fn each_holds(rt: &impl Abort, rows: &[Row<Grade>], written: &[(usize, u32, u32)]) {
+    fn each_holds(rt: &impl Abort, name: &str, rows: &[Row<Grade>], written: &[(usize, u32, u32)]) {
         for (i, row) in rows.iter().enumerate() {
             let mut held = (7, 9);
             for (number, base, level) in written {
@@ -554,22 +556,23 @@ mod tests {
                     held = (*base, *level);
                 }
             }
-            assert_eq!(rt; (row.base.value(), row.level.value()), held, "{}", i);
+            assert_eq!(rt; (row.base.value(), row.level.value()), held, "{name}, {i}");
         }
     }
 
     // Asks the three questions of each semaphore.
     fn ask_each(rt: &impl Abort, kernel: &Kernel<'_, Grade>, asked: &[Asked]) {
         for (s, held_by, waiters, count) in asked {
-            assert_eq!(rt; holder(kernel.holder_of(*s)), *held_by, "{}", *s);
-            assert_eq!(rt; plain(kernel.waiters_at(*s)), *waiters, "{}", *s);
-            assert_eq!(rt; plain(kernel.count_at(*s)), *count, "{}", *s);
+            assert_eq!(rt; holder(kernel.holder_of(*s)), *held_by, "{s}");
+            assert_eq!(rt; plain(kernel.waiters_at(*s)), *waiters, "{s}");
+            assert_eq!(rt; plain(kernel.count_at(*s)), *count, "{s}");
         }
     }
 
     // Makes the calls of two tables on a kernel with three tasks and three semaphores, and compares every row, those of absent tasks and past the 64th too.
     fn story(
         rt: &impl Abort,
+        name: &str,
         start: &[CaseOf<u32>],
         end: &[CaseOf<u32>],
         written: &[(usize, u32, u32)],
@@ -577,10 +580,10 @@ mod tests {
         let mut rows = rows::<66>()?;
         let mut kernel = Kernel::open(&mut rows);
         assert_eq!(rt; kernel.running(), None);
-        make_all(rt, &mut kernel, &THREE)?;
-        make_all(rt, &mut kernel, start)?;
-        make_all(rt, &mut kernel, end)?;
-        each_holds(rt, &rows, written);
+        make_all(rt, name, &mut kernel, &THREE)?;
+        make_all(rt, name, &mut kernel, start)?;
+        make_all(rt, name, &mut kernel, end)?;
+        each_holds(rt, name, &rows, written);
         Ok(())
     }
 
@@ -591,7 +594,7 @@ mod tests {
         let mut few = rows::<63>()?;
         assert_eq!(rt; refused(check_rows(&few)), Some(3));
         make_each(&rt, &mut few, &FEW_ROWS)?;
-        each_holds(&rt, &few, &[]);
+        each_holds(&rt, "row", &few, &[]);
         Ok(())
     }
 
@@ -599,7 +602,7 @@ mod tests {
     fn refusals(rt: HostRuntime) -> Result<(), Fail> {
         let mut rows = rows::<64>()?;
         make_each(&rt, &mut rows, &REFUSALS)?;
-        each_holds(&rt, &rows, &[(63, 5, 5)]);
+        each_holds(&rt, "row", &rows, &[(63, 5, 5)]);
         Ok(())
     }
 
@@ -650,7 +653,7 @@ mod tests {
     fn rows_that_stay(rt: HostRuntime) -> Result<(), Fail> {
         let mut rows = rows::<66>()?;
         make_each(&rt, &mut rows, &ROWS)?;
-        each_holds(&rt, &rows, &[(0, 5, 5), (63, 4, 4)]);
+        each_holds(&rt, "row", &rows, &[(0, 5, 5), (63, 4, 4)]);
         Ok(())
     }
 
@@ -658,8 +661,8 @@ mod tests {
     fn few_rows_of_semaphores(rt: HostRuntime) -> Result<(), Fail> {
         let mut few = rows::<63>()?;
         let mut kernel = Kernel::open(&mut few);
-        make_all(&rt, &mut kernel, &FEW_ROWS_OF_SEMAPHORES)?;
-        each_holds(&rt, &few, &[]);
+        make_all(&rt, "case", &mut kernel, &FEW_ROWS_OF_SEMAPHORES)?;
+        each_holds(&rt, "row", &few, &[]);
         Ok(())
     }
 
@@ -668,12 +671,12 @@ mod tests {
     fn refusals_of_waits(rt: HostRuntime) -> Result<(), Fail> {
         let mut rows = rows::<64>()?;
         let mut kernel = Kernel::open(&mut rows);
-        make_all(&rt, &mut kernel, &THREE)?;
-        make_all(&rt, &mut kernel, &ALL_HELD)?;
+        make_all(&rt, "case", &mut kernel, &THREE)?;
+        make_all(&rt, "case", &mut kernel, &ALL_HELD)?;
         ask_each(&rt, &kernel, &WHILE_ALL_HELD);
-        make_all(&rt, &mut kernel, &SEMAPHORE_REFUSALS)?;
+        make_all(&rt, "case", &mut kernel, &SEMAPHORE_REFUSALS)?;
         ask_each(&rt, &kernel, &WHILE_ALL_HELD);
-        each_holds(&rt, &rows, &[(0, 10, 10), (1, 20, 10), (2, 30, 30)]);
+        each_holds(&rt, "row", &rows, &[(0, 10, 10), (1, 20, 10), (2, 30, 30)]);
         Ok(())
     }
 
@@ -681,8 +684,8 @@ mod tests {
     fn questions_of_waits(rt: HostRuntime) -> Result<(), Fail> {
         let mut rows = rows::<64>()?;
         let mut kernel = Kernel::open(&mut rows);
-        make_all(&rt, &mut kernel, &THREE)?;
-        make_all(&rt, &mut kernel, &ONE_HELD)?;
+        make_all(&rt, "case", &mut kernel, &THREE)?;
+        make_all(&rt, "case", &mut kernel, &ONE_HELD)?;
         ask_each(&rt, &kernel, &WHILE_ONE_HELD);
         assert_eq!(rt; value(kernel.base_of(2)), Ok(30));
         assert_eq!(rt; value(kernel.level_of(2)), Ok(10));
@@ -710,9 +713,9 @@ mod tests {
             level: least,
         }; 64];
         let mut kernel = Kernel::open(&mut rows);
-        make_all(&rt, &mut kernel, &DUE)?;
+        make_all(&rt, "case", &mut kernel, &DUE)?;
         assert_eq!(rt; value(kernel.level_of(3)), Ok((499, 0)));
-        make_all(&rt, &mut kernel, &HANDED_ON)?;
+        make_all(&rt, "case", &mut kernel, &HANDED_ON)?;
         assert_eq!(rt; value(kernel.level_of(3)), Ok((501, 3)));
         Ok(())
     }
@@ -722,9 +725,10 @@ mod tests {
     fn rows_that_stay_in_waits(rt: HostRuntime) -> Result<(), Fail> {
         let mut rows = rows::<66>()?;
         let mut kernel = Kernel::open(&mut rows);
-        make_all(&rt, &mut kernel, &ROWS_OF_WAITS)?;
+        make_all(&rt, "case", &mut kernel, &ROWS_OF_WAITS)?;
         each_holds(
             &rt,
+            "row",
             &rows,
             &[(0, 5, 5), (1, 20, 20), (2, 30, 20), (63, 4, 4)],
         );
@@ -734,7 +738,7 @@ mod tests {
     #[test]
     fn stories(rt: HostRuntime) -> Result<(), Fail> {
         for (name, start, end, written) in STORIES {
-            story(&rt, start, end, written).note(name)?;
+            story(&rt, name, start, end, written)?;
         }
         Ok(())
     }

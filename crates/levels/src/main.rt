@@ -1,5 +1,6 @@
 //! A day of a telematics unit under grades: each call, what came of it, and who runs after it.
 #![tactic(auto)]
+
 ghost use Rattle.std.specs.Prelude.{◌≡◌, ◌≤◌, map, replicate, MatchOption};
 ghost use Rattle.book.specs.declared.call.Call.TheVariants.{Task, Untask, Base};
 ghost use Rattle.book.specs.Kernel.{calls};
