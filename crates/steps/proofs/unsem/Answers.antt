@@ -1,5 +1,4 @@
 use Rattle.std.proofs.Common.{◌≡◌, T, Some, None, sym, ap, ◌∙◌, subst, arith}
-use Rattle.tasksets.specs.Sets.{none}
 use Rattle.waits.specs.declared.parts.Wait.TheVariants.{Ready, AtSemaphore}
 use Rattle.waits.specs.Changes.{with_semaphore, turned}
 use Rattle.waits.specs.Facts.{Facts}
