@@ -1,4 +1,4 @@
 pub mod Order
 pub mod Orders
-pub mod GradeUrgencyLemmas
-pub mod DeadlineUrgencyLemmas
+pub mod GradeLaws
+pub mod DeadlineLaws

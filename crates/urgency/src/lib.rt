@@ -2,13 +2,11 @@
 #![tactic(auto)]
 
 ghost use Rattle.std.specs.Prelude.{◌≡◌, Bool, T, ◌⊎◌, Some};
-ghost use Rattle.std.proofs.Common.{leb→le, arith, rules};
+ghost use Rattle.std.proofs.Common.{rules};
 ghost use Rattle.urgency.specs.Order.{above, upper, same};
 ghost use Rattle.urgency.specs.Orders.{by_grade, by_deadline};
-ghost use Rattle.urgency.specs.GradeUrgencyLemmas.{equal};
-ghost use Rattle.std.proofs.lemmas.Bool.Decides.{nat_tests};
-ghost use Rattle.urgency.specs.DeadlineUrgencyLemmas;
-ghost use Rattle.urgency.specs.DeadlineUrgencyLemmas.{holds};
+ghost use Rattle.urgency.specs.GradeLaws;
+ghost use Rattle.urgency.specs.DeadlineLaws;
 
 mod deadline;
 mod grade;
@@ -36,11 +34,11 @@ pub trait Urgency: Copy {
 impl Urgency for Grade {
     ghost urgent = { by_grade };
 
-    ghost total = { first_of (Prim.search rules, Prim.grind (arith, Self.row.coded.inj)) };
+    ghost total = { Prim.search rules };
 
-    ghost transitive = { first_of (Prim.search rules, Prim.grind (arith, Self.row.coded.inj)) };
+    ghost transitive = { Prim.search rules };
 
-    ghost antisymmetric = { λ a b p q. equal a b.value b.ok (omega (arith, leb→le a.value b.value p, leb→le b.value a.value q)) };
+    ghost antisymmetric = { GradeLaws.antisymmetric };
 
     fn at_least(&self, other: &Grade) -> bool {
         self.value() <= other.value()
@@ -51,14 +49,11 @@ impl Urgency for Grade {
 impl Urgency for Deadline {
     ghost urgent = { by_deadline };
 
-    ghost total = { first_of (Prim.search rules, Prim.grind (arith, Self.row.coded.inj)) };
+    ghost total = { Prim.search rules };
 
-    ghost transitive = { first_of (Prim.search rules, Prim.grind (arith, Self.row.coded.inj)) };
+    ghost transitive = { Prim.search rules };
 
-    ghost antisymmetric = { λ a b p q.
-        let p = holds (by_deadline a b) p in
-        let q = holds (by_deadline b a) q in
-        DeadlineUrgencyLemmas.equal a b.tick b.class b.ok (Prim.grind (arith, nat_tests)) (Prim.grind (arith, nat_tests)) };
+    ghost antisymmetric = { DeadlineLaws.antisymmetric };
 
     fn at_least(&self, other: &Deadline) -> bool {
         if self.tick() == other.tick() {
