@@ -56,8 +56,8 @@ absent_unawaited w f s n i e = n (held_there (w.semaphores s) (f.held i s e))
 -- nor where none is the first of those that wait
 pub unpicked_unawaited : (w : Waits) → Sound w → (s : ℕ) (o : Option ℕ) → Picked (doing w (AtSemaphore s)) 64 o → o ≡ None → Unawaited w s
 unpicked_unawaited w f s o p e i q =
-    let there-i = waiter (w.tasks i) (AtSemaphore s) q ready_at in
-    subst (Picked (doing w (AtSemaphore s)) 64) e p i (f.tasks< i there-i) (in_doing w f (AtSemaphore s) i (is_does (AtSemaphore s) (w.tasks i) there-i q))
+    let there_i = waiter (w.tasks i) (AtSemaphore s) q ready_at in
+    subst (Picked (doing w (AtSemaphore s)) 64) e p i (f.tasks< i there_i) (in_doing w f (AtSemaphore s) i (is_does (AtSemaphore s) (w.tasks i) there_i q))
 
 -- a task comes to a semaphore
 come_sound : (w : Waits) (t s : ℕ) → Facts w → Present w t → T (is_some (w.semaphores s)) → Sound (come w t s)

@@ -199,7 +199,7 @@ impl<'a, U: Urgency> Kernel<'a, U> {
         self.make(Call::Unlock(t, s))
     }
 
-    /// `release t`: t waits no more, and is ready without the semaphore at which it waited.
+    /// `release t`: t waits no more; it is ready without the semaphore at which it waited, or leaves its condition and comes to the condition's semaphore.
     pub fn release(&mut self, t: u32) -> Reply
         ensures made { Made U.urgent (state_of self.old) (Release t) result (state_of self.new) }
         ensures named { self.new.rows.ghost_name ≡ self.old.rows.ghost_name }
