@@ -1,4 +1,2 @@
 pub mod Order
 pub mod Orders
-pub mod GradeLaws
-pub mod DeadlineLaws

@@ -2,11 +2,10 @@
 #![tactic(auto)]
 
 ghost use Rattle.std.specs.Prelude.{◌≡◌, Bool, T, ◌⊎◌, Some};
-ghost use Rattle.std.proofs.Common.{rules};
+ghost use Rattle.std.proofs.Common.{arith, rules};
+ghost use Rattle.std.proofs.lemmas.Bool.Decides.{nat_tests};
 ghost use Rattle.urgency.specs.Order.{above, upper, same};
 ghost use Rattle.urgency.specs.Orders.{by_grade, by_deadline};
-ghost use Rattle.urgency.specs.GradeLaws;
-ghost use Rattle.urgency.specs.DeadlineLaws;
 
 mod deadline;
 mod grade;
@@ -38,7 +37,8 @@ impl Urgency for Grade {
 
     ghost transitive = { Prim.search rules };
 
-    ghost antisymmetric = { GradeLaws.antisymmetric };
+    // Grades of one value are equal, since the fact in each has one proof.
+    ghost antisymmetric = { Prim.grind (arith, nat_tests, Self.row.coded.inj) };
 
     fn at_least(&self, other: &Grade) -> bool {
         self.value() <= other.value()
@@ -53,7 +53,8 @@ impl Urgency for Deadline {
 
     ghost transitive = { Prim.search rules };
 
-    ghost antisymmetric = { DeadlineLaws.antisymmetric };
+    // So are deadlines of one tick and one class.
+    ghost antisymmetric = { Prim.grind (arith, nat_tests, Self.row.coded.inj) };
 
     fn at_least(&self, other: &Deadline) -> bool {
         if self.tick() == other.tick() {

@@ -70,7 +70,7 @@ impl WaitTable {
         }
     }
 
-    /// The table in which task t does `wait` from now on, or is absent.
+    /// The table in which task t does `wait` from now on, or is absent. Whoever makes a table owes the facts that are a part of its type.
     pub fn with_task(self, t: u32, wait: Option<Wait>) -> WaitTable
         requires low { t < 64 }
         requires facts { Facts (with_task (waits_of self) t wait) }
@@ -83,7 +83,7 @@ impl WaitTable {
         WaitTable::of(tasks, semaphores, conditions)
     }
 
-    /// The table in which semaphore s is free or has this holder from now on, or is absent.
+    /// The table in which semaphore s is free or has this holder from now on, or is absent. Whoever makes a table owes the facts that are a part of its type.
     pub fn with_semaphore(self, s: u32, holder: Option<Holder>) -> WaitTable
         requires low { s < 64 }
         requires facts { Facts (with_semaphore (waits_of self) s holder) }
@@ -96,7 +96,7 @@ impl WaitTable {
         WaitTable::of(tasks, semaphores, conditions)
     }
 
-    /// The table in which whoever did `from` does `to` from now on.
+    /// The table in which whoever did `from` does `to` from now on. Whoever makes a table owes the facts that are a part of its type.
     pub fn turned(self, from: Wait, to: Wait) -> WaitTable
         requires { Facts (turned (waits_of self) from to) }
         ensures { waits_of result ≡ turned (waits_of self) from to }
