@@ -184,3 +184,7 @@ pow_has i k = go (ℕ_discrete k i)
 
 pub past_has : (w m k : ℕ) → m < 2 ^ w → w ≤ k → has m k ≡ false
 past_has w m k h l = ap (λ x. eqb x 1) (bit_past w m k h l)
+
+-- nothing is a member of no set
+pub none_has : (k : ℕ) → has 0 k ≡ false
+none_has k = ap (λ x. eqb x 1) (bit_none k)

@@ -1,2 +1,3 @@
 pub mod Bits
-pub mod Those
+pub mod Sets
+pub mod Rising

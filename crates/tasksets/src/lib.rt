@@ -1,8 +1,9 @@
 //! Sets of tasks as the bits of one number.
 #![tactic(auto)]
 
-ghost use Rattle.std.specs.Prelude.{◌≡◌, ℕ, ◌<◌, ◌≤◌, not, ◌&&◌, ◌||◌, MatchOption, ◌==◌};
-ghost use Rattle.tasksets.specs.Sets.{Has, has, Smallest, members_below};
+ghost use Rattle.std.specs.Prelude.{◌≡◌, ℕ, ◌<◌, ◌≤◌, Bool, not, ◌&&◌, ◌||◌, MatchOption, ◌==◌};
+ghost use Rattle.std.specs.Iterator.{item_count};
+ghost use Rattle.tasksets.specs.Sets.{Has, has, Smallest, Takes, those, members, members_below};
 
 /// A set of tasks: task k has the bit of value 2^k.
 pub type TaskSet = u64;
@@ -47,6 +48,47 @@ pub fn size(set: TaskSet) -> u32
     set.count_ones()
 }
 
+/// An iterator over the members of a set, rising.
+#[derive(Debug, Drop)]
+pub struct Iter(TaskSet);
+
+impl Iterator for Iter {
+    type Item = u32;
+
+    ghost next_gives = { λ s r t. Takes s.0 r t.0 };
+
+    ghost remaining = { item_count (λ s. members s.0) };
+
+    fn next(&mut self) -> Option<u32> {
+        let first = smallest(self.0)?;
+        self.0 = without(self.0, first);
+        Some(first)
+    }
+}
+
+/// The members of the set, from the smallest up.
+pub fn members(set: TaskSet) -> Iter
+    ensures { result.0 ≡ set }
+{
+    Iter(set)
+}
+
+/// The set of the numbers below 64 that pass a test; where it is known what the test says, the set of what it says yes of.
+pub fn those<F: Fn(u32) -> bool>(test: F) -> TaskSet
+    requires { (k : ℕ) → k < 64 → F.pre test k }
+    ensures members { (k : ℕ) → k < 64 → F.post test k (has result k) }
+    ensures known { (p : ℕ → Bool) → ((k : ℕ) (b : Bool) → k < 64 → F.post test k b → b ≡ p k) → result ≡ those p }
+{
+    let mut set: TaskSet = 0;
+    // A loop, since each turn tells what the test said, also where that was no.
+    for k in 0..64u32 {
+        if test(k) {
+            set = with(set, k);
+        }
+    }
+    set
+}
+
 #[cfg(test)]
 mod tests {
     use super::*;
@@ -72,5 +114,13 @@ mod tests {
         assert_eq!(rt; smallest(ends), Some(0));
         assert_eq!(rt; smallest(without(ends, 0)), Some(63));
         assert_eq!(rt; smallest(0), None);
+    }
+
+    #[test]
+    fn members_one_after_another(rt: HostRuntime) {
+        let mut each = members(those(|k| k % 63 == 0));
+        assert_eq!(rt; each.next(), Some(0));
+        assert_eq!(rt; each.next(), Some(63));
+        assert_eq!(rt; each.next(), None);
     }
 }

@@ -2,7 +2,7 @@
 ghost use Rattle.std.specs.Prelude.{◌≡◌, ◌≤◌, MatchOption};
 
 /// An urgency from 1, the most urgent, to 255.
-#[derive(Clone, Copy)]
+#[derive(Clone, Copy, Debug, PartialEq, Eq)]
 pub struct Grade {
     value: u8,
     ghost ok: { 1 ≤ value },
@@ -13,7 +13,7 @@ impl Grade {
     pub fn new(value: u32) -> Option<Grade>
         ensures { MatchOption result (1 ≤ value → value ≤ 255 → ⊥) (λ g. (1 ≤ value) × (value ≤ 255) × (g.value ≡ value)) }
     {
-        if 1 <= value && value <= 255 {
+        if (1..=255).contains(&value) {
             Some(Grade { value: value as u8 })
         } else {
             None

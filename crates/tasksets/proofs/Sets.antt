@@ -1,12 +1,12 @@
 -- The laws of `those`: which members it has, how a loop builds it, and what unions, meets and counts of sets are.
-use Rattle.std.proofs.Common.{◌≡◌, ℕ, zero, suc, ◌+◌, ◌/◌, ◌%◌, ◌^◌, ◌<◌, ◌≤◌, Bool, true, false, cond, not, ◌&&◌, ◌||◌, T, eqb, sym, refl, ap, ◌∙◌, subst, pow-suc, add-one, arith, eqb→eq}
+use Rattle.std.proofs.Common.{◌≡◌, ℕ, zero, suc, ◌+◌, ◌/◌, ◌%◌, ◌^◌, ◌<◌, ◌≤◌, Bool, true, false, cond, not, ◌&&◌, ◌||◌, T, eqb, sym, refl, ap, ◌∙◌, subst, pow-suc, add-one, arith, eqb→eq, pow_mono}
 use native.Mathlib.Decide.{ℕ_discrete}
 use lib.Bits.{bit_and, bit_or, and_le_r, or_lt}
 use lib.Pow.{pow-lt}
-use Rattle.std.proofs.lemmas.Bool.{ne_eqb}
+use Rattle.std.proofs.lemmas.Bool.{eq-eqb, ne_eqb}
 use lib.Count.{ones, ones_step, count_trailing_zeros}
 use Rattle.tasksets.specs.Sets.{bit, Has, has, none, those, those_below, members_below}
-use Rattle.tasksets.proofs.Bits.{bit_le, bit_zero, bit_suc, bit_of_and, bit_of_or, bit_none, bit_pow, bit_pow_other, bit_past, has_below, lowest, same_bits, or_new, or_has, and_has, pow_has}
+use Rattle.tasksets.proofs.Bits.{bit_le, bit_zero, bit_suc, bit_of_and, bit_of_or, bit_none, bit_pow, bit_pow_other, bit_past, has_below, lowest, same_bits, or_new, or_has, and_has, pow_has, past_has}
 
 -- tests and facts
 pub T_has : (m k : ℕ) → Has m k → T (has m k)
@@ -182,3 +182,31 @@ module _ (m k r : ℕ) (m< : m < 2 ^ 64) (r< : r < 2 ^ 64) (members : (j : ℕ) 
       or_false : (x : Bool) → (x || false) ≡ x
       or_false true = refl
       or_false false = refl
+
+-- ---- a loop that asks each number: n goes in where the answer is yes
+module _ (ask : ℕ → Bool → Type 0) (n m : ℕ) (below : m < 2 ^ n) (told : (j : ℕ) → j < n → ask j (has m j)) where
+  pub ask_in : (r : ℕ) → n < 64 → r < 2 ^ 64 → ((j : ℕ) → j < 64 → has r j ≡ (has m j || eqb j n)) → ask n true → (r < 2 ^ (n + 1)) × ((j : ℕ) → j < n + 1 → ask j (has r j))
+  ask_in r n< r< members yes' = (
+    let m< : m < 2 ^ 64 = omega (arith, below, pow_mono {i = n} {j = 64} (omega arith)) in
+        omega (arith, with_or m n r m< r< members n<, or_new n m (bit_past n m n below (omega arith)), below, ap (λ k. 2 ^ k) (add-one n), pow-suc 2 n),
+    λ j l. go j l (ℕ_discrete j n),
+  )
+    where
+      go : (j : ℕ) → j < n + 1 → Dec (j ≡ n) → ask j (has r j)
+      go j l (yes e) = subst (ask j) (sym (members j (omega arith) ∙ ap (λ x. has m j || x) (eq-eqb j n e) ∙ or_true (has m j))) (subst (λ k. ask k true) (sym e) yes')
+        where
+          or_true : (x : Bool) → (x || true) ≡ true
+          or_true true = refl
+          or_true false = refl
+      go j l (no d) = subst (ask j) (sym (members j (omega arith) ∙ ap (λ x. has m j || x) (ne_eqb j n d) ∙ or_false (has m j))) (told j (omega arith))
+        where
+          or_false : (x : Bool) → (x || false) ≡ x
+          or_false true = refl
+          or_false false = refl
+
+  pub ask_out : ask n false → (m < 2 ^ (n + 1)) × ((j : ℕ) → j < n + 1 → ask j (has m j))
+  ask_out no' = (omega (arith, below, ap (λ k. 2 ^ k) (add-one n), pow-suc 2 n), λ j l. go j l (ℕ_discrete j n))
+    where
+      go : (j : ℕ) → j < n + 1 → Dec (j ≡ n) → ask j (has m j)
+      go j l (yes e) = subst (λ k. ask k (has m k)) (sym e) (subst (ask n) (sym (past_has n m n below (omega arith))) no')
+      go j l (no d) = told j (omega arith)
