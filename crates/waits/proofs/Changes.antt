@@ -5,10 +5,8 @@ use Rattle.tasksets.specs.Sets.{Has}
 use Rattle.tasksets.proofs.Bits.{bit_none, has_pow}
 use Rattle.waits.specs.declared.parts.Wait.{Wait}
 use Rattle.waits.specs.declared.parts.Wait.TheVariants.{Ready, AtSemaphore, OnCondition}
-use Rattle.waits.specs.declared.parts.Holder.{Holder}
-use Rattle.waits.specs.declared.parts.Holder.TheVariants.{Free, HeldBy}
 use Rattle.waits.specs.Chain.{Chain, here, step, Ring}
-use Rattle.waits.specs.Waits.{Waits, wait_in, holder_set, awaited_in, Awaits, does, held_by, held, belongs, semaphore_of, with_task}
+use Rattle.waits.specs.Waits.{Holder, Waits, wait_in, holder_set, awaited_in, Awaits, does, held_by, held, belongs, semaphore_of, with_task}
 use Rattle.waits.specs.Changes.{with_semaphore, turned, taken, come_to, come, handed, released_from, released}
 use Rattle.waits.specs.Facts.{Present, Holds, Helps, Sound, Facts}
 use Rattle.waits.proofs.Chains.{lift}
@@ -29,7 +27,7 @@ ready_alone w r here = refl
 ready_alone w r (step {i = i} {j = j} a c) = absurd (ready_none w i j r a)
 
 -- a semaphore that h has is held by h
-held_of : (w : Waits) (s h : ℕ) → w.semaphores s ≡ Some (HeldBy h) → Holds w h s
+held_of : (w : Waits) (s h : ℕ) → w.semaphores s ≡ Some (Some h) → Holds w h s
 held_of w s h e = subst (λ o. T (held_by h o)) (sym e) (eqb_refl h)
 
 -- ---- one task changes
@@ -38,13 +36,13 @@ pub task_freed : (w : Waits) (t : ℕ) → Facts w → Present w t → Facts (wi
 task_freed w t f p = idle w t (Some Ready) f refl (λ _. f.sound.tasks< t p) (λ _ _. tt) (λ _ _. tt)
 
 -- t waits at s from now on, which h holds: all but freedom from rings
-pub queued_sound : (w : Waits) (t s h : ℕ) → Sound w → Present w t → w.semaphores s ≡ Some (HeldBy h) → Sound (with_task w t (Some (AtSemaphore s)))
+pub queued_sound : (w : Waits) (t s h : ℕ) → Sound w → Present w t → w.semaphores s ≡ Some (Some h) → Sound (with_task w t (Some (AtSemaphore s)))
 queued_sound w t s h f p e =
     task_changed w f t (Some (AtSemaphore s)) (λ _. f.tasks< t p) (λ _ _. tt) (λ _ _. tt)
     (λ z q. subst (λ x. T (held (w.semaphores x))) (at_same q) (subst (λ o. T (held o)) (sym e) tt)) (λ c q. absurd (at_on q))
 
 -- and that too, where the holder has no chain to t
-pub task_queued : (w : Waits) (t s h : ℕ) → Facts w → Present w t → w.semaphores s ≡ Some (HeldBy h) → (Chain (Awaits w) h t → ⊥)
+pub task_queued : (w : Waits) (t s h : ℕ) → Facts w → Present w t → w.semaphores s ≡ Some (Some h) → (Chain (Awaits w) h t → ⊥)
     → Facts (with_task w t (Some (AtSemaphore s)))
 task_queued w t s h f p e none = record {
   sound = queued_sound w t s h f.sound p e;
@@ -64,7 +62,7 @@ task_queued w t s h f p e none = record {
     apart p q a b c = none (subst (λ x. Chain (Awaits w) x t) b (subst (λ y. Chain (Awaits w) q y) a c))
 
 -- where the holder has a chain to t, which was ready, a ring comes about
-pub ring_queued : (w : Waits) (t s h : ℕ) → T (does Ready (w.tasks t)) → w.semaphores s ≡ Some (HeldBy h) → Chain (Awaits w) h t
+pub ring_queued : (w : Waits) (t s h : ℕ) → T (does Ready (w.tasks t)) → w.semaphores s ≡ Some (Some h) → Chain (Awaits w) h t
     → Ring (Awaits (with_task w t (Some (AtSemaphore s)))) t
 ring_queued w t s h r e c =
     (h, away new t h (at s (ap wait_in (put_same w.tasks t (Some (AtSemaphore s)))) (held_of w s h e)), lift {R = Awaits w} {S = Awaits new} stay c)
@@ -119,21 +117,21 @@ semaphore_idle w s h f small no-holder own empty = record {
 }
 
 -- s, at which nobody waits, is free from now on
-pub semaphore_freed : (w : Waits) (s : ℕ) → Facts w → s < 64 → Unawaited w s → Facts (with_semaphore w s (Some Free))
-semaphore_freed w s f l empty = semaphore_idle w s (Some Free) f (λ _. l) (λ _ x. x) (λ _ _. tt) empty
+pub semaphore_freed : (w : Waits) (s : ℕ) → Facts w → s < 64 → Unawaited w s → Facts (with_semaphore w s (Some None))
+semaphore_freed w s f l empty = semaphore_idle w s (Some None) f (λ _. l) (λ _ x. x) (λ _ _. tt) empty
 
 -- s ends, at which nobody waits and to which no condition belongs
 pub semaphore_ended : (w : Waits) (s : ℕ) → Facts w → Unawaited w s → ((c : ℕ) → T (belongs s (w.conditions c)) → ⊥) → Facts (with_semaphore w s None)
 semaphore_ended w s f empty own = semaphore_idle w s None f (λ x. absurd x) (λ _ x. x) own empty
 
 -- u, present and ready, holds s from now on
-pub semaphore_taken : (w : Waits) (s u : ℕ) → Facts w → s < 64 → T (does Ready (w.tasks u)) → Facts (with_semaphore w s (Some (HeldBy u)))
+pub semaphore_taken : (w : Waits) (s u : ℕ) → Facts w → s < 64 → T (does Ready (w.tasks u)) → Facts (with_semaphore w s (Some (Some u)))
 semaphore_taken w s u f l r = record {
-  sound = semaphore_changed w f.sound s (Some (HeldBy u)) (λ _. l)
+  sound = semaphore_changed w f.sound s (Some (Some u)) (λ _. l)
       (λ t x. subst (λ y. Present w y × ((c : ℕ) → wait_in (w.tasks y) ≡ OnCondition c → ⊥)) (eqb→eq u t x) (is.0, λ c e. ready_on (sym is.1 ∙ e)))
       (λ _ _. tt) (λ _ _. tt);
-  free = no_new_ring {old = Awaits w} {new = Awaits (with_semaphore w s (Some (HeldBy u)))} (λ i. wait_in (w.tasks i) ≡ AtSemaphore s) (λ j. u ≡ j)
-      (λ i j a. ⊎_elim inl (λ (e, x). inr (e, eqb→eq u j x)) (semaphore_edges w s (Some (HeldBy u)) i j a)) apart f.free;
+  free = no_new_ring {old = Awaits w} {new = Awaits (with_semaphore w s (Some (Some u)))} (λ i. wait_in (w.tasks i) ≡ AtSemaphore s) (λ j. u ≡ j)
+      (λ i j a. ⊎_elim inl (λ (e, x). inr (e, eqb→eq u j x)) (semaphore_edges w s (Some (Some u)) i j a)) apart f.free;
 }
   where
     is : Present w u × (wait_in (w.tasks u) ≡ Ready)
@@ -212,8 +210,8 @@ come_facts w t s f p nothing = go (w.semaphores s) refl
   where
     go : (o : Option Holder) → w.semaphores s ≡ o → Facts (come_to w t s o)
     go None e = f
-    go (Some Free) e = task_taken w t s f p (f.sound.semaphores< s (subst (λ o. T (is_some o)) (sym e) tt))
-    go (Some (HeldBy h)) e = task_queued w t s h f p e (holder_apart w f.sound h s t (held_of w s h e) nothing)
+    go (Some None) e = task_taken w t s f p (f.sound.semaphores< s (subst (λ o. T (is_some o)) (sym e) tt))
+    go (Some (Some h)) e = task_queued w t s h f p e (holder_apart w f.sound h s t (held_of w s h e) nothing)
 
 -- a present task waits no more
 pub released_facts : (w : Waits) (t : ℕ) → Facts w → Present w t → Facts (released w t)

@@ -2,14 +2,12 @@
 use Rattle.std.proofs.Common.{◌≡◌, ℕ, ◌^◌, ◌<◌, Bool, true, false, cond, T, eqb, ◌⊎◌, is_some, Some, None, Option, sym, refl, ap, ◌∙◌, subst, inl, inr, ⊎_elim, arith, eqb→eq}
 use lib.Dec.{eqb_refl}
 use Rattle.tasksets.specs.Sets.{Has}
-use Rattle.tasksets.proofs.Bits.{bit_none, bit_pow, has_pow}
-use Rattle.tasksets.proofs.Those.{T_has, has_T, those_only, those_all}
+use Rattle.tasksets.proofs.Bits.{bit_none, none_has, bit_pow, has_pow}
+use Rattle.tasksets.proofs.Sets.{T_has, has_T, those_only, those_all}
 use Rattle.waits.specs.declared.parts.Wait.{Wait}
 use Rattle.waits.specs.declared.parts.Wait.TheVariants.{Ready, AtSemaphore, OnCondition}
-use Rattle.waits.specs.declared.parts.Holder.{Holder}
-use Rattle.waits.specs.declared.parts.Holder.TheVariants.{Free, HeldBy}
 use Rattle.waits.specs.declared.parts.Condition.{Condition}
-use Rattle.waits.specs.Waits.{Waits, wait_in, holder_set, awaited_in, Awaits, same_wait, does, held_by, held, helped_by, doing, put, with_task}
+use Rattle.waits.specs.Waits.{Holder, Waits, wait_in, holder_set, awaited_in, Awaits, same_wait, does, held_by, held, helped_by, doing, put, with_task}
 use Rattle.waits.specs.Facts.{Present, Holds, Helps, RingFree, Sound, Facts}
 use Rattle.waits.proofs.Chains.{lift_none}
 
@@ -78,26 +76,30 @@ waiter (Some x) w e ne = tt
 -- ---- holders and helpers
 pub held_some : (h : Option Holder) (t : ℕ) → T (held_by t h) → T (held h)
 held_some None t x = x
-held_some (Some Free) t x = x
-held_some (Some (HeldBy h)) t x = tt
+held_some (Some None) t x = x
+held_some (Some (Some h)) t x = tt
 
 pub held_there : (h : Option Holder) → T (held h) → T (is_some h)
 held_there None x = x
 held_there (Some h) x = tt
 
+-- where there is no condition, nobody helps
+pub helps_nothing : (t : ℕ) → helped_by t None ≡ false
+helps_nothing t = none_has t
+
 pub helped_there : (k : Option Condition) (t : ℕ) → T (helped_by t k) → T (is_some k)
-helped_there None t h = omega (arith, bit_none t, has_T 0 t h)
+helped_there None t h = subst T (helps_nothing t) h
 helped_there (Some k) t h = tt
 
 pub holder_is : (h : Option Holder) (j : ℕ) → Has (holder_set h) j → T (held_by j h)
 holder_is None j x = omega (arith, bit_none j, x)
-holder_is (Some Free) j x = omega (arith, bit_none j, x)
-holder_is (Some (HeldBy h)) j x = subst (λ y. T (eqb h y)) (sym (has_pow h j x)) (eqb_refl h)
+holder_is (Some None) j x = omega (arith, bit_none j, x)
+holder_is (Some (Some h)) j x = subst (λ y. T (eqb h y)) (sym (has_pow h j x)) (eqb_refl h)
 
 pub is_holder : (h : Option Holder) (j : ℕ) → T (held_by j h) → Has (holder_set h) j
 is_holder None j x = absurd x
-is_holder (Some Free) j x = absurd x
-is_holder (Some (HeldBy h)) j x = subst (λ y. Has (2 ^ h) y) (eqb→eq h j x) (bit_pow h)
+is_holder (Some None) j x = absurd x
+is_holder (Some (Some h)) j x = subst (λ y. Has (2 ^ h) y) (eqb→eq h j x) (bit_pow h)
 
 -- ---- who awaits whom
 -- a task at a semaphore awaits its holder, one on a condition each of its helpers

@@ -1,11 +1,11 @@
 -- Loops that turn the tasks along chains from each task into the tasks with a chain to each.
-use Rattle.std.proofs.Common.{◌≡◌, ℕ, zero, suc, ◌+◌, ◌<◌, ◌≤◌, Bool, true, false, not, ◌&&◌, ◌||◌, T, eqb, ltb, List, length, get_or, set, replicate, sym, refl, ap, ◌∙◌, subst, arith, length-set}
+use Rattle.std.proofs.Common.{◌≡◌, ℕ, ◌+◌, ◌<◌, ◌≤◌, Bool, true, false, not, ◌&&◌, ◌||◌, T, eqb, ltb, List, length, get_or, set, sym, refl, ap, ◌∙◌, subst, arith, length-set}
 use native.Mathlib.Decide.{ℕ_discrete}
 use Rattle.std.proofs.lemmas.List.{get_or-set_same, get_or-set_other}
 use Rattle.std.proofs.lemmas.Bool.{eq-eqb, ne_eqb}
 use Rattle.std.proofs.lemmas.Bool.Decides.{nat_tests}
 use Rattle.tasksets.specs.Sets.{Has, has}
-use Rattle.tasksets.proofs.Those.{T_has, has_T}
+use Rattle.tasksets.proofs.Sets.{T_has, has_T}
 use Rattle.waits.specs.declared.table.WaitTable.{WaitTable}
 use Rattle.waits.specs.Chain.{Reached}
 use Rattle.waits.specs.Waits.{Awaits}
@@ -98,8 +98,3 @@ below_more p j i = go (ℕ_discrete j i)
 pub below_all : (x : Bool) (j i : ℕ) → j < 64 → 64 ≤ i → (x && ltb j i) ≡ x
 below_all true j i l b = grind (arith, nat_tests)
 below_all false j i l b = refl
-
-pub zeros_at : (n i : ℕ) → ◌≡◌ {A = ℕ} (get_or (replicate n 0) i 0) 0
-zeros_at zero i = refl
-zeros_at (suc n) zero = refl
-zeros_at (suc n) (suc i) = zeros_at n i

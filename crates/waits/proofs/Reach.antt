@@ -7,7 +7,7 @@ use lib.Pow.{pow-lt}
 use lib.Count.{ones, ones-le}
 use Rattle.tasksets.specs.Sets.{bit, Has, has, none, those}
 use Rattle.tasksets.proofs.Bits.{bit_le, bit_none, bit_pow, has_pow, has_below}
-use Rattle.tasksets.proofs.Those.{T_has, has_T, below_lt, those_only, those_all, any_only, any_all, meets_only, meets_all, fewer, ones_pow}
+use Rattle.tasksets.proofs.Sets.{T_has, has_T, below_lt, those_only, those_all, any_only, any_all, meets_only, meets_all, fewer, ones_pow}
 use Rattle.waits.specs.Chain.{Chain, here, step, Ring}
 use Rattle.waits.specs.Waits.{Waits, awaited, Awaits}
 use Rattle.waits.specs.Facts.{Sound, Facts}

@@ -6,18 +6,18 @@ use lib.Dec.{eqb_refl}
 use Rattle.std.proofs.lemmas.List.{get_or_past}
 use Rattle.tasksets.specs.Sets.{bit}
 use Rattle.tasksets.proofs.Bits.{bit_none}
-use Rattle.tasksets.proofs.Those.{has_T}
+use Rattle.tasksets.proofs.Sets.{has_T}
 use Rattle.waits.specs.declared.parts.Wait.{Wait}
 use Rattle.waits.specs.declared.parts.Wait.TheVariants.{AtSemaphore}
-use Rattle.waits.specs.declared.parts.Holder.{Holder}
 use Rattle.waits.specs.declared.parts.Condition.{Condition}
 use Rattle.waits.specs.declared.table.WaitTable.{WaitTable}
-use Rattle.waits.specs.declared.parts.Holder.TheVariants.{HeldBy}
-use Rattle.waits.specs.Waits.{Waits, waits, nothing, wait_in, holder_set, awaited_in, awaited, Awaits, held_by, put, with_task}
+use Rattle.waits.specs.Waits.{Holder, Waits, waits, nothing, wait_in, holder_set, awaited_in, awaited, Awaits, held_by, put, with_task}
 use Rattle.waits.specs.Changes.{with_semaphore}
 use Rattle.waits.specs.Facts.{Sound, Facts}
+use Rattle.waits.specs.Reach.{ring}
 use Rattle.waits.specs.Table.{waits_of}
 use Rattle.waits.proofs.Keeps.{ready_at, ready_on}
+use Rattle.waits.proofs.Reach.{ring_false}
 
 -- what stands in a list of options stands below its length
 pub there_below : {A : Type 0} (xs : List (Option A)) (n : ℕ) → length xs ≡ n → (i : ℕ) → T (is_some (get_or xs i None)) → i < n
@@ -27,10 +27,11 @@ there_below xs n l i p = go (dec_lt i n)
     go (yes h) = h
     go (no h) = absurd (subst (λ o. T (is_some o)) (get_or_past xs i None (omega arith)) p)
 
-pub none_at : (A : Type 0) (n i : ℕ) → get_or {A = Option A} (replicate n None) i None ≡ None
-none_at A zero i = refl
-none_at A (suc n) zero = refl
-none_at A (suc n) (suc i) = none_at A n i
+-- what a list of one entry repeated has, past its end too
+pub default_at : {A : Type 0} (d : A) (n i : ℕ) → get_or (replicate n d) i d ≡ d
+default_at d zero i = refl
+default_at d (suc n) zero = refl
+default_at d (suc n) (suc i) = default_at d n i
 
 pub get_or_put : {A : Type 0} (xs : List A) (d : A) (k : ℕ) (v : A) → k < length xs → (i : ℕ) → get_or (set xs k v) i d ≡ put (λ i. get_or xs i d) k v i
 get_or_put xs d k v l i = go (eqb i k) refl
@@ -56,12 +57,16 @@ facts_of t = record {
   free = t.free;
 }
 
+-- so it has no ring
+pub no_ring : (t : WaitTable) → ring (waits_of t) ≡ false
+no_ring t = ring_false (waits_of t) (facts_of t)
+
 -- empty arrays hold nothing
 pub none_there : waits (replicate 64 None) (replicate 64 None) (replicate 64 None) ≡ nothing
 none_there =
-    ap (λ f. record { tasks = f; semaphores = λ i. get_or (replicate 64 None) i None; conditions = λ i. get_or (replicate 64 None) i None }) (fun_ext (none_at Wait 64))
-    ∙ (ap (λ f. record { tasks = λ _. None; semaphores = f; conditions = λ i. get_or (replicate 64 None) i None }) (fun_ext (none_at Holder 64))
-    ∙ ap (λ f. record { tasks = λ _. None; semaphores = λ _. None; conditions = f }) (fun_ext (none_at Condition 64)))
+    ap (λ f. record { tasks = f; semaphores = λ i. get_or (replicate 64 None) i None; conditions = λ i. get_or (replicate 64 None) i None }) (fun_ext (default_at {A = Option Wait} None 64))
+    ∙ (ap (λ f. record { tasks = λ _. None; semaphores = f; conditions = λ i. get_or (replicate 64 None) i None }) (fun_ext (default_at {A = Option Holder} None 64))
+    ∙ ap (λ f. record { tasks = λ _. None; semaphores = λ _. None; conditions = f }) (fun_ext (default_at {A = Option Condition} None 64)))
 
 -- a write among the tasks
 pub task_written : (ts : List (Option Wait)) (ss : List (Option Holder)) (cs : List (Option Condition)) (t : ℕ) (v : Option Wait) → t < length ts
@@ -93,11 +98,11 @@ nothing_facts = record {
 }
 
 -- a holder is a task below 64
-pub holder_below : (w : Waits) → Sound w → (s h : ℕ) → w.semaphores s ≡ Some (HeldBy h) → h < 64
+pub holder_below : (w : Waits) → Sound w → (s h : ℕ) → w.semaphores s ≡ Some (Some h) → h < 64
 holder_below w f s h e = f.tasks< h (f.holders h s (subst (λ o. T (held_by h o)) (sym e) (eqb_refl h)))
 
 -- a task at a held semaphore awaits its holder
-pub awaits_holder : (w : Waits) (i s h : ℕ) → w.tasks i ≡ Some (AtSemaphore s) → w.semaphores s ≡ Some (HeldBy h) → awaited w i ≡ 2 ^ h
+pub awaits_holder : (w : Waits) (i s h : ℕ) → w.tasks i ≡ Some (AtSemaphore s) → w.semaphores s ≡ Some (Some h) → awaited w i ≡ 2 ^ h
 awaits_holder w i s h e d = ap (λ o. awaited_in w (wait_in o)) e ∙ ap holder_set d
 
 -- only tasks below 64 await

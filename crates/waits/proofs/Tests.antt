@@ -13,14 +13,6 @@ pub yes_of : (x : Bool) → (T (not x) → ⊥) → T x
 yes_of true n = tt
 yes_of false n = n tt
 
-pub not_of : (x : Bool) → (T x → ⊥) → T (not x)
-not_of true n = n tt
-not_of false n = tt
-
-pub of_not : (x : Bool) → T (not x) → T x → ⊥
-of_not true n t = n
-of_not false n t = t
-
 pub or_split : (x y : Bool) → T (x || y) → T x ⊎ T y
 or_split true y t = inl tt
 or_split false y t = inr t

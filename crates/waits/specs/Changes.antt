@@ -2,9 +2,7 @@
 use Rattle.std.specs.Prelude.{ℕ, cond, Some, None, Option}
 use Rattle.waits.specs.declared.parts.Wait.{Wait}
 use Rattle.waits.specs.declared.parts.Wait.TheVariants.{Ready, AtSemaphore, OnCondition}
-use Rattle.waits.specs.declared.parts.Holder.{Holder}
-use Rattle.waits.specs.declared.parts.Holder.TheVariants.{Free, HeldBy}
-use Rattle.waits.specs.Waits.{Waits, put, wait_in, does, semaphore_of, with_task}
+use Rattle.waits.specs.Waits.{Holder, Waits, put, wait_in, does, semaphore_of, with_task}
 
 -- semaphore s is free or has this holder from now on, or is absent
 abbrev pub with_semaphore : Waits → ℕ → Option Holder → Waits
@@ -16,20 +14,20 @@ turned w v d = record { tasks = λ i. cond (does v (w.tasks i)) (Some d) (w.task
 
 -- task t is ready and holds semaphore s from now on
 abbrev pub taken : Waits → ℕ → ℕ → Waits
-taken w t s = with_semaphore (with_task w t (Some Ready)) s (Some (HeldBy t))
+taken w t s = with_semaphore (with_task w t (Some Ready)) s (Some (Some t))
 
 -- task t comes to a semaphore s of this holder: it takes s if that is free, else it waits there
 abbrev pub come_to : Waits → ℕ → ℕ → Option Holder → Waits
 come_to w t s None = w
-come_to w t s (Some Free) = taken w t s
-come_to w t s (Some (HeldBy h)) = with_task w t (Some (AtSemaphore s))
+come_to w t s (Some None) = taken w t s
+come_to w t s (Some (Some h)) = with_task w t (Some (AtSemaphore s))
 
 abbrev pub come : Waits → ℕ → ℕ → Waits
 come w t s = come_to w t s (w.semaphores s)
 
 -- semaphore s goes to a task, which becomes ready; with none it is free
 abbrev pub handed : Waits → ℕ → Option ℕ → Waits
-handed w s None = with_semaphore w s (Some Free)
+handed w s None = with_semaphore w s (Some None)
 handed w s (Some t) = taken w t s
 
 -- task t, which does this, waits no more: it is ready without its semaphore, or leaves its condition and comes to the condition's semaphore

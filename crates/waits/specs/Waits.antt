@@ -3,11 +3,11 @@ use Rattle.std.specs.Prelude.{ℕ, ◌^◌, Bool, true, false, cond, not, ◌&&�
 use Rattle.tasksets.specs.Sets.{Has, has, those}
 use Rattle.waits.specs.declared.parts.Wait.{Wait}
 use Rattle.waits.specs.declared.parts.Wait.TheVariants.{Ready, AtSemaphore, OnCondition}
-use Rattle.waits.specs.declared.parts.Holder.{Holder}
-use Rattle.waits.specs.declared.parts.Holder.TheVariants.{Free, HeldBy}
 use Rattle.waits.specs.declared.parts.Condition.{Condition}
-use Rattle.waits.specs.declared.parts.Test.{Test}
-use Rattle.waits.specs.declared.parts.Test.TheVariants.{Present, Waiting, Doing, HeldByTask, HelpedByTask, OfSemaphore}
+
+-- who has a semaphore: one task, or nobody
+abbrev pub Holder : Type 0
+Holder = Option ℕ
 
 -- by number: what each task does, who has each semaphore, what each condition is; `None` where there is none of that number
 pub record Waits : Type 0 where
@@ -36,8 +36,8 @@ wait_in (Some w) = w
 -- the holder of a semaphore, as a set
 abbrev pub holder_set : Option Holder → ℕ
 holder_set None = 0
-holder_set (Some Free) = 0
-holder_set (Some (HeldBy h)) = 2 ^ h
+holder_set (Some None) = 0
+holder_set (Some (Some h)) = 2 ^ h
 
 -- the helpers of a condition
 abbrev pub helper_set : Option Condition → ℕ
@@ -62,14 +62,9 @@ Awaits w i j = Has (awaited w i) j
 -- two tasks do the same
 abbrev pub same_wait : Wait → Wait → Bool
 same_wait Ready Ready = true
-same_wait Ready (AtSemaphore s) = false
-same_wait Ready (OnCondition c) = false
-same_wait (AtSemaphore s) Ready = false
 same_wait (AtSemaphore s) (AtSemaphore z) = s == z
-same_wait (AtSemaphore s) (OnCondition c) = false
-same_wait (OnCondition c) Ready = false
-same_wait (OnCondition c) (AtSemaphore s) = false
 same_wait (OnCondition c) (OnCondition z) = c == z
+same_wait _ _ = false
 
 -- a task is present and does w
 abbrev pub does : Wait → Option Wait → Bool
@@ -79,14 +74,14 @@ does w (Some v) = same_wait v w
 -- t holds this semaphore
 abbrev pub held_by : ℕ → Option Holder → Bool
 held_by t None = false
-held_by t (Some Free) = false
-held_by t (Some (HeldBy h)) = h == t
+held_by t (Some None) = false
+held_by t (Some (Some h)) = h == t
 
 -- some task holds this semaphore
 abbrev pub held : Option Holder → Bool
 held None = false
-held (Some Free) = false
-held (Some (HeldBy h)) = true
+held (Some None) = false
+held (Some (Some h)) = true
 
 -- t helps this condition
 abbrev pub helped_by : ℕ → Option Condition → Bool
@@ -105,15 +100,6 @@ semaphore_of (Some k) = k.semaphore
 -- t is present and not ready
 abbrev pub waiting : Waits → ℕ → Bool
 waiting w t = is_some (w.tasks t) && not (does Ready (w.tasks t))
-
--- number i passes a test
-abbrev pub passes : Waits → Test → ℕ → Bool
-passes w Present i = is_some (w.tasks i)
-passes w Waiting i = waiting w i
-passes w (Doing v) i = does v (w.tasks i)
-passes w (HeldByTask t) i = held_by t (w.semaphores i)
-passes w (HelpedByTask t) i = helped_by t (w.conditions i)
-passes w (OfSemaphore s) i = belongs s (w.conditions i)
 
 -- the tasks that do v: that are ready, that wait at a semaphore, that wait on a condition
 abbrev pub doing : Waits → Wait → ℕ

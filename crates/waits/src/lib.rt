@@ -1,10 +1,10 @@
 //! The wait table: what is present, who waits for what, and the tasks along a chain.
 #![tactic(auto)]
 
-ghost use Rattle.std.specs.Prelude.{◌≡◌, ℕ, ◌<◌, ◌&&◌, ◌||◌, Some, None, ◌==◌, slice_index};
+ghost use Rattle.std.specs.Prelude.{◌≡◌, ℕ, ◌<◌, ◌&&◌, ◌||◌, Some, None, is_some, ◌==◌, slice_index, slice_index_or};
 ghost use Rattle.tasksets.specs.Sets.{Has, has, those};
 ghost use Rattle.waits.specs.Chain.{Reached};
-ghost use Rattle.waits.specs.Waits.{waits, nothing, awaited, Awaits, same_wait, passes, with_task};
+ghost use Rattle.waits.specs.Waits.{waits, nothing, awaited, Awaits, waiting, doing, held_by, helped_by, belongs, with_task};
 ghost use Rattle.waits.specs.Changes.{with_semaphore, turned};
 ghost use Rattle.waits.specs.Reach.{leading};
 ghost use Rattle.waits.specs.Facts.{Facts};
@@ -13,9 +13,9 @@ ghost use Rattle.waits.specs.Table.{waits_of};
 mod parts;
 mod table;
 
-pub use parts::{Condition, Holder, Test, Wait};
+pub use parts::{Condition, Holder, Wait};
 pub use table::WaitTable;
-use tasksets::{TaskSet, contains, smallest, with, without};
+use tasksets::{TaskSet, contains, members, smallest, those, with};
 
 impl WaitTable {
     /// The table that three arrays make.
@@ -45,29 +45,21 @@ impl WaitTable {
     pub fn task(&self, t: u32) -> Option<Wait>
         ensures { result ≡ (waits_of self.now).tasks t }
     {
-        if t < 64 { self.tasks[t as usize] } else { None }
+        entry(&self.tasks, t)
     }
 
     /// Who has semaphore s, if it is present.
     pub fn semaphore(&self, s: u32) -> Option<Holder>
         ensures { result ≡ (waits_of self.now).semaphores s }
     {
-        if s < 64 {
-            self.semaphores[s as usize]
-        } else {
-            None
-        }
+        entry(&self.semaphores, s)
     }
 
     /// Condition c, if it is present.
     pub fn condition(&self, c: u32) -> Option<Condition>
         ensures { result ≡ (waits_of self.now).conditions c }
     {
-        if c < 64 {
-            self.conditions[c as usize]
-        } else {
-            None
-        }
+        entry(&self.conditions, c)
     }
 
     /// The table in which task t does `wait` from now on, or is absent. Whoever makes a table owes the facts that are a part of its type.
@@ -77,10 +69,8 @@ impl WaitTable {
         ensures { waits_of result ≡ with_task (waits_of self) t wait }
     {
         let mut tasks = self.tasks;
-        let semaphores = self.semaphores;
-        let conditions = self.conditions;
         tasks[t as usize] = wait;
-        WaitTable::of(tasks, semaphores, conditions)
+        WaitTable::of(tasks, self.semaphores, self.conditions)
     }
 
     /// The table in which semaphore s is free or has this holder from now on, or is absent. Whoever makes a table owes the facts that are a part of its type.
@@ -89,11 +79,9 @@ impl WaitTable {
         requires facts { Facts (with_semaphore (waits_of self) s holder) }
         ensures { waits_of result ≡ with_semaphore (waits_of self) s holder }
     {
-        let tasks = self.tasks;
         let mut semaphores = self.semaphores;
-        let conditions = self.conditions;
         semaphores[s as usize] = holder;
-        WaitTable::of(tasks, semaphores, conditions)
+        WaitTable::of(self.tasks, semaphores, self.conditions)
     }
 
     /// The table in which whoever did `from` does `to` from now on. Whoever makes a table owes the facts that are a part of its type.
@@ -102,40 +90,27 @@ impl WaitTable {
         ensures { waits_of result ≡ turned (waits_of self) from to }
     {
         let mut tasks = self.tasks;
-        let semaphores = self.semaphores;
-        let conditions = self.conditions;
-        for i in 0..64u32 {
-            if self.passes(Test::Doing(from), i) {
-                tasks[i as usize] = Some(to);
+        for task in tasks.iter_mut() {
+            if *task == Some(from) {
+                *task = Some(to);
             }
         }
-        WaitTable::of(tasks, semaphores, conditions)
+        WaitTable::of(tasks, self.semaphores, self.conditions)
     }
 
     /// The tasks that task i awaits: at a semaphore its holder, on a condition each helper, and none when it is ready.
     pub fn awaited(&self, i: u32) -> TaskSet
         ensures { result ≡ awaited (waits_of self.now) i }
     {
-        let Some(wait) = self.task(i) else {
-            return 0;
-        };
-        match wait {
-            Wait::Ready => 0,
-            Wait::AtSemaphore(s) => {
-                let Some(holder) = self.semaphore(s) else {
-                    return 0;
-                };
-                match holder {
-                    Holder::Free => 0,
-                    Holder::HeldBy(h) => 1 << h,
-                }
-            }
-            Wait::OnCondition(c) => {
-                let Some(condition) = self.condition(c) else {
-                    return 0;
-                };
-                condition.helpers
-            }
+        match self.task(i) {
+            None | Some(Wait::Ready) => 0,
+            Some(Wait::AtSemaphore(s)) => match self.semaphore(s).flatten() {
+                None => 0,
+                Some(h) => 1 << h,
+            },
+            Some(Wait::OnCondition(c)) => self
+                .condition(c)
+                .map_or(0, |condition| condition.helpers),
         }
     }
 
@@ -145,6 +120,7 @@ impl WaitTable {
     {
         let mut seen: TaskSet = 0;
         let mut todo = with(0, i);
+        // A worklist: it grows while it is walked, so no iterator goes over it.
         while let Some(j) = smallest(todo) {
             seen = with(seen, j);
             todo = (todo | self.awaited(j)) & !seen;
@@ -157,6 +133,7 @@ impl WaitTable {
         ensures { (t j : ℕ) → t < 64 → j < 64 → has (slice_index result t) j ≡ has (leading (waits_of self.now) t) j }
     {
         let mut sets: [TaskSet; 64] = [0; 64];
+        // By number: i is the member that goes into the sets.
         for i in 0..64u32 {
             let along = self.reached(i);
             add_to_each(&mut sets, along, i);
@@ -164,71 +141,74 @@ impl WaitTable {
         sets
     }
 
-    /// Whether number i passes the test.
-    pub fn passes(&self, test: Test, i: u32) -> bool
-        ensures { result ≡ passes (waits_of self.now) test i }
+    /// Whether task t is present and not ready.
+    pub fn is_waiting(&self, t: u32) -> bool
+        ensures { result ≡ waiting (waits_of self.now) t }
     {
-        match test {
-            Test::Present => match self.task(i) {
-                None => false,
-                Some(_) => true,
-            },
-            Test::Waiting => match self.task(i) {
-                None => false,
-                Some(wait) => !same_wait(wait, Wait::Ready),
-            },
-            Test::Doing(what) => match self.task(i) {
-                None => false,
-                Some(wait) => same_wait(wait, what),
-            },
-            Test::HeldByTask(t) => match self.semaphore(i) {
-                Some(Holder::HeldBy(h)) => h == t,
-                _ => false,
-            },
-            Test::HelpedByTask(t) => match self.condition(i) {
-                None => false,
-                Some(condition) => contains(condition.helpers, t),
-            },
-            Test::OfSemaphore(s) => match self.condition(i) {
-                None => false,
-                Some(condition) => condition.semaphore == s,
-            },
-        }
+        self.task(t).is_some_and(|wait| wait != Wait::Ready)
     }
 
-    /// The set of the numbers that pass the test.
-    pub fn those(&self, test: Test) -> TaskSet
-        ensures { result ≡ those (passes (waits_of self.now) test) }
+    /// The tasks that are present.
+    pub fn present(&self) -> TaskSet
+        ensures { result ≡ those (λ i. is_some ((waits_of self.now).tasks i)) }
     {
-        let mut set: TaskSet = 0;
-        for i in 0..64u32 {
-            if self.passes(test, i) {
-                set = with(set, i);
-            }
-        }
-        set
+        those(|i| self.task(i).is_some())
+    }
+
+    /// The tasks that wait.
+    pub fn waiting(&self) -> TaskSet
+        ensures { result ≡ those (waiting (waits_of self.now)) }
+    {
+        those(|i| self.is_waiting(i))
+    }
+
+    /// The tasks that do `what`.
+    pub fn doing(&self, what: Wait) -> TaskSet
+        ensures { result ≡ doing (waits_of self.now) what }
+    {
+        those(|i| self.task(i) == Some(what))
+    }
+
+    /// The semaphores that task t holds.
+    pub fn held_by(&self, t: u32) -> TaskSet
+        ensures { result ≡ those (λ s. held_by t ((waits_of self.now).semaphores s)) }
+    {
+        those(|s| self.semaphore(s) == Some(Some(t)))
+    }
+
+    /// The conditions that task t helps.
+    pub fn helped_by(&self, t: u32) -> TaskSet
+        ensures { result ≡ those (λ c. helped_by t ((waits_of self.now).conditions c)) }
+    {
+        those(|c| {
+            self.condition(c)
+                .is_some_and(|condition| contains(condition.helpers, t))
+        })
+    }
+
+    /// The conditions that belong to semaphore s.
+    pub fn belonging_to(&self, s: u32) -> TaskSet
+        ensures { result ≡ those (λ c. belongs s ((waits_of self.now).conditions c)) }
+    {
+        those(|c| {
+            self.condition(c)
+                .is_some_and(|condition| condition.semaphore == s)
+        })
     }
 }
 
-/// Whether two tasks do the same.
-fn same_wait(a: Wait, b: Wait) -> bool
-    ensures { result ≡ same_wait a b }
+/// Entry i, if there is one.
+fn entry<T: Copy>(entries: &[Option<T>; 64], i: u32) -> Option<T>
+    ensures { result ≡ slice_index_or entries.now i None }
 {
-    match (a, b) {
-        (Wait::Ready, Wait::Ready) => true,
-        (Wait::AtSemaphore(s), Wait::AtSemaphore(z)) => s == z,
-        (Wait::OnCondition(c), Wait::OnCondition(z)) => c == z,
-        _ => false,
-    }
+    entries.get(i as usize).copied().flatten()
 }
 
 /// Adds i to the set of each member of `to`.
 fn add_to_each(sets: &mut [TaskSet; 64], to: TaskSet, i: u32)
     ensures { (t j : ℕ) → t < 64 → j < 64 → has (slice_index sets.new t) j ≡ (has (slice_index sets.old t) j || (has to t && j == i)) }
 {
-    let mut left = to;
-    while let Some(t) = smallest(left) {
+    for t in members(to) {
         sets[t as usize] = with(sets[t as usize], i);
-        left = without(left, t);
     }
 }

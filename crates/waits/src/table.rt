@@ -5,7 +5,8 @@ ghost use Rattle.waits.specs.Facts.{WaitersKnown, HoldersPresent, HelpersPresent
 use super::parts::{Condition, Holder, Wait};
 
 /// The wait table: what is present, and who waits for what. Each fact that every kernel keeps is a part of its type.
-#[derive(Clone, Copy)]
+/// Task, semaphore and condition of one number have nothing to do with one another, so each kind has an array of its own.
+#[derive(Clone, Copy, Debug, PartialEq, Eq)]
 pub struct WaitTable {
     pub(crate) tasks: [Option<Wait>; 64],
     pub(crate) semaphores: [Option<Holder>; 64],

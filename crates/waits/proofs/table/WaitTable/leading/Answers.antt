@@ -1,13 +1,14 @@
-use Rattle.std.proofs.Common.{◌&&◌, ◌||◌, eqb, ltb, ap, ◌∙◌}
+use Rattle.std.proofs.Common.{ℕ, ◌&&◌, ◌||◌, eqb, ltb, ap, ◌∙◌}
 use Rattle.tasksets.specs.Sets.{has}
 use Rattle.tasksets.proofs.Bits.{bit_none}
 use Rattle.waits.specs.Reach.{leading}
 use Rattle.waits.specs.Table.{waits_of}
-use Rattle.waits.proofs.Marking.{below_none, below_more, below_all, zeros_at, reached_leads}
+use Rattle.waits.proofs.Marking.{below_none, below_more, below_all, reached_leads}
+use Rattle.waits.proofs.Tables.{default_at}
 use Rattle.waits.proofs.table.WaitTable.leading.Goals as goal
 
 pub loop-i-init : goal.loop-i-init
-loop-i-init c = λ t j l b. ap (λ m. has m j) (zeros_at 64 t) ∙ ap (λ b. eqb b 1) (bit_none j) ∙ below_none (has (leading (waits_of c.args.self.now) t) j) j
+loop-i-init c = λ t j l b. ap (λ m. has m j) (default_at {A = ℕ} 0 64 t) ∙ ap (λ b. eqb b 1) (bit_none j) ∙ below_none (has (leading (waits_of c.args.self.now) t) j) j
 
 pub loop-i-preserved : goal.loop-i-preserved
 loop-i-preserved c = λ t j l b.

@@ -2,7 +2,7 @@ use Rattle.std.proofs.Common.{◌≡◌, ℕ, ◌-◌, ◌^◌, ◌<◌, sym, re
 use native.Mathlib.Decide.{dec_lt}
 use lib.Bits.{bit_and, bit_or, or_zero_l}
 use Rattle.tasksets.specs.Sets.{Has}
-use Rattle.tasksets.proofs.Those.{with_or, with_past}
+use Rattle.tasksets.proofs.Sets.{with_or, with_past}
 use Rattle.waits.specs.Waits.{Awaits}
 use Rattle.waits.specs.Table.{waits_of}
 use Rattle.waits.proofs.Scan.{Scan, scan_start, scan_none, scan_end, scan_turn, scan_grows}

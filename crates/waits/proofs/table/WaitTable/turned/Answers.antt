@@ -1,18 +1,20 @@
-use Rattle.std.proofs.Common.{sym, ◌∙◌, subst, arith}
+use Rattle.std.proofs.Common.{rules, sym, ◌∙◌, subst, arith}
 use Rattle.waits.specs.Facts.{Facts}
-use Rattle.waits.proofs.Turning.{turn_one, turn_none, turn_end}
+use Rattle.waits.proofs.Turning.{turn_next, turn_end}
 use Rattle.waits.proofs.table.WaitTable.turned.Goals as goal
-use Rattle.waits.proofs.table.WaitTable.turned.Goals.{then-passes, else-passes}
+use Rattle.waits.proofs.table.WaitTable.turned.Goals.{then-eq, else-eq}
 
-pub loop-i-preserved : goal.loop-i-preserved
-loop-i-preserved c =
-    elim c.if-passes.branch [
-      | then-passes w ↦ rw w.tasks-is (turn_one c.loop-i.invariant c.loop-i-test.true w.if-passes.ensures)
-      | else-passes w ↦ rw w.tasks-is (turn_none c.loop-i.invariant w.if-passes.ensures)
+pub loop-task-preserved : goal.loop-task-preserved
+loop-task-preserved c =
+    elim c.if-eq.branch [
+      | then-eq w ↦ rw w.task-items-is (turn_next _ _ _ _ _ _ c.loop-task.invariant c.loop-task-test.true (search (w.if-eq.ensures, rules)))
+      | else-eq w ↦ rw w.task-items-is (turn_next _ _ _ _ _ _ c.loop-task.invariant c.loop-task-test.true (search (w.if-eq.ensures, rules)))
     ]
 
 pub of-requires : goal.of-requires
-of-requires c = subst Facts (sym (turn_end c.args.self.tasks c.loop-i.tasks c.args.self.semaphores c.args.self.conditions c.loop-i.i c.args.self.sized.0 (omega arith) c.loop-i.invariant)) c.requires
+of-requires c =
+    subst Facts (sym (turn_end c.args.self.tasks c.loop-task.task-items c.args.self.semaphores c.args.self.conditions c.args.from c.args.to c.args.self.sized.0 (omega arith) c.loop-task.invariant)) c.requires
 
 pub returns : goal.returns
-returns c = c.of.ensures ∙ turn_end c.args.self.tasks c.loop-i.tasks c.args.self.semaphores c.args.self.conditions c.loop-i.i c.args.self.sized.0 (omega arith) c.loop-i.invariant
+returns c =
+    c.of.ensures ∙ turn_end c.args.self.tasks c.loop-task.task-items c.args.self.semaphores c.args.self.conditions c.args.from c.args.to c.args.self.sized.0 (omega arith) c.loop-task.invariant
