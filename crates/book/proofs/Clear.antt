@@ -2,7 +2,7 @@
 use Rattle.std.proofs.Common.{◌≡◌, ℕ, ◌<◌, Bool, true, false, cond, not, T, ltb, List, [], ◌∷◌, ◌++◌, is_some, Some, None, subst, arith, le→leb}
 use native.Mathlib.Decide.{dec_lt}
 use Rattle.tasksets.specs.Sets.{none, those}
-use Rattle.tasksets.proofs.Those.{those_all, any_all}
+use Rattle.tasksets.proofs.Sets.{those_all, any_all}
 use Rattle.waits.specs.Waits.{Waits}
 use Rattle.waits.proofs.Tests.{yes_of, or_left, or_right}
 use Rattle.book.specs.declared.refusal.Refusal.{Refusal}

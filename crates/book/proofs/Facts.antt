@@ -2,10 +2,8 @@
 use Rattle.std.proofs.Common.{◌≡◌, ℕ, Bool, false, not, T, List, [], ◌∷◌, is_some, Some, None, Option, refl, subst, true≢false}
 use Rattle.tasksets.specs.Sets.{none, those}
 use Rattle.waits.specs.declared.parts.Wait.TheVariants.{AtSemaphore}
-use Rattle.waits.specs.declared.parts.Holder.{Holder}
-use Rattle.waits.specs.declared.parts.Holder.TheVariants.{Free, HeldBy}
 use Rattle.waits.specs.declared.parts.Condition.{Condition}
-use Rattle.waits.specs.Waits.{Waits, held_by, helped_by, belongs, doing}
+use Rattle.waits.specs.Waits.{Holder, Waits, held_by, helped_by, belongs, doing}
 use Rattle.waits.specs.Changes.{come_to, come}
 use Rattle.waits.specs.Facts.{Present, Holds, Helps, RingFree, Sound, Facts}
 use Rattle.waits.specs.Reach.{ring}
@@ -65,8 +63,8 @@ come_sound w t s f p q = go (w.semaphores s) refl q
   where
     go : (h : Option Holder) → w.semaphores s ≡ h → T (is_some h) → Sound (come_to w t s h)
     go None e x = absurd x
-    go (Some Free) e x = (task_taken w t s f p (f.sound.semaphores< s q)).sound
-    go (Some (HeldBy h)) e x = queued_sound w t s h f.sound p e
+    go (Some None) e x = (task_taken w t s f p (f.sound.semaphores< s q)).sound
+    go (Some (Some h)) e x = queued_sound w t s h f.sound p e
 
 -- ---- each call
 module _ {U : Type 0} (urgent : U → U → Bool) (n : ℕ) where

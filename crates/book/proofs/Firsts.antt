@@ -3,7 +3,7 @@ use Rattle.std.proofs.Common.{◌≡◌, ℕ, zero, suc, ◌<◌, Bool, true, fa
 use Rattle.urgency.specs.Order.{Order, above, Above}
 use Rattle.urgency.proofs.Laws.{order_above, itself}
 use Rattle.tasksets.specs.Sets.{Has, has}
-use Rattle.tasksets.proofs.Those.{T_has, has_T}
+use Rattle.tasksets.proofs.Sets.{T_has, has_T}
 use Rattle.waits.specs.declared.parts.Wait.TheVariants.{Ready}
 use Rattle.waits.specs.Chain.{Chain}
 use Rattle.waits.specs.Waits.{Awaits, doing}

@@ -4,12 +4,13 @@ use native.Mathlib.Decide.{ℕ_discrete}
 use Rattle.urgency.specs.Order.{Order, same}
 use Rattle.urgency.proofs.Laws.{order_above, same_of, of_same}
 use Rattle.tasksets.specs.Sets.{Has}
-use Rattle.tasksets.proofs.Those.{those_only, those_all}
+use Rattle.tasksets.proofs.Sets.{those_only, those_all}
 use Rattle.waits.specs.declared.parts.Wait.TheVariants.{Ready}
 use Rattle.waits.specs.Chain.{From}
 use Rattle.waits.specs.Waits.{Waits, awaited, Awaits, does, waiting}
 use Rattle.waits.specs.Facts.{Present, IsReady, Sound, Facts}
-use Rattle.waits.proofs.Tests.{not_of, of_not, both, and_left, and_right}
+use Rattle.std.proofs.Math.Dec.{T_not, not_T}
+use Rattle.waits.proofs.Tests.{both, and_left, and_right}
 use Rattle.waits.proofs.Keeps.{inside}
 use Rattle.book.specs.declared.call.Call.{Call}
 use Rattle.book.specs.declared.refusal.Refusal.{Refusal}
@@ -30,10 +31,10 @@ woken_are w x f i = (
   λ h.
       let t = (those_only (λ i. waiting w i && does Ready (x.tasks i)) i h).0 in
       let s = and_left (waiting w i) (does Ready (x.tasks i)) t in
-      (and_left (is_some (w.tasks i)) _ s, of_not (does Ready (w.tasks i)) (and_right (is_some (w.tasks i)) _ s), and_right (waiting w i) _ t),
+      (and_left (is_some (w.tasks i)) _ s, T_not (does Ready (w.tasks i)) (and_right (is_some (w.tasks i)) _ s), and_right (waiting w i) _ t),
   λ (p, q, r).
       those_all (λ i. waiting w i && does Ready (x.tasks i)) i (f.tasks< i p)
-      (both (waiting w i) _ (both (is_some (w.tasks i)) _ p (not_of (does Ready (w.tasks i)) q)) r),
+      (both (waiting w i) _ (both (is_some (w.tasks i)) _ p (not_T (does Ready (w.tasks i)) q)) r),
 )
 
 told : {p q : Bool × ℕ × ℕ} → ◌≡◌ {A = Reply} (Ok p) (Ok q) → q ≡ p
@@ -49,11 +50,11 @@ module _ {U : Type 0} (urgent : U → U → Bool) (order : Order (λ u v. T (urg
         let s = and_left (is_some (w.tasks i) && is_some (x.waits.tasks i)) (differs i) t in (
           and_left (is_some (w.tasks i)) _ s,
           and_right (is_some (w.tasks i)) _ s,
-          λ e. of_not (same urgent (lev i) (level urgent x i)) (and_right (is_some (w.tasks i) && is_some (x.waits.tasks i)) _ t) (of_same urgent order (lev i) (level urgent x i) e),
+          λ e. T_not (same urgent (lev i) (level urgent x i)) (and_right (is_some (w.tasks i) && is_some (x.waits.tasks i)) _ t) (of_same urgent order (lev i) (level urgent x i) e),
         ),
     λ (p, q, r).
         those_all test i (f.tasks< i p) (both (is_some (w.tasks i) && is_some (x.waits.tasks i)) _ (both (is_some (w.tasks i)) _ p q)
-        (not_of (same urgent (lev i) (level urgent x i)) (λ t. r (same_of urgent order (lev i) (level urgent x i) t)))),
+        (not_T (same urgent (lev i) (level urgent x i)) (λ t. r (same_of urgent order (lev i) (level urgent x i) t)))),
   )
     where
       differs : ℕ → Bool

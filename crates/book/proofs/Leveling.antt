@@ -5,7 +5,7 @@ use Rattle.urgency.specs.Order.{Order, Above, upper}
 use Rattle.urgency.proofs.Laws.{order_above, upper_one, upper_left, upper_right}
 use Rattle.tasksets.specs.Sets.{Has, has}
 use Rattle.tasksets.proofs.Bits.{has_below}
-use Rattle.tasksets.proofs.Those.{T_has, has_T}
+use Rattle.tasksets.proofs.Sets.{T_has, has_T}
 use Rattle.waits.specs.Chain.{Chain, here}
 use Rattle.waits.specs.Waits.{Awaits}
 use Rattle.waits.specs.Facts.{Present, Sound}

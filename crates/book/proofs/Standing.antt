@@ -3,9 +3,7 @@ use Rattle.std.proofs.Common.{◌≡◌, ℕ, Bool, true, false, cond, T, is_som
 use Rattle.tasksets.specs.Sets.{Has}
 use Rattle.waits.specs.declared.parts.Wait.{Wait}
 use Rattle.waits.specs.declared.parts.Wait.TheVariants.{Ready, AtSemaphore, OnCondition}
-use Rattle.waits.specs.declared.parts.Holder.{Holder}
-use Rattle.waits.specs.declared.parts.Holder.TheVariants.{Free, HeldBy}
-use Rattle.waits.specs.Waits.{Waits, wait_in, does, doing, semaphore_of, with_task}
+use Rattle.waits.specs.Waits.{Holder, Waits, wait_in, does, doing, semaphore_of, with_task}
 use Rattle.waits.specs.Changes.{turned, come_to, handed, released_from}
 use Rattle.waits.specs.Facts.{Present}
 use Rattle.waits.proofs.Tests.{true_of}
@@ -32,8 +30,8 @@ module _ (w : Waits) where
 
   come_stands : (t s : ℕ) → Present w t → (h : Option Holder) → Stands w (come_to w t s h)
   come_stands t s p None = λ i. refl
-  come_stands t s p (Some Free) = task_stands t Ready p
-  come_stands t s p (Some (HeldBy h)) = task_stands t (AtSemaphore s) p
+  come_stands t s p (Some None) = task_stands t Ready p
+  come_stands t s p (Some (Some h)) = task_stands t (AtSemaphore s) p
 
   handed_stands : (s : ℕ) (o : Option ℕ) → ((u : ℕ) → o ≡ Some u → Present w u) → Stands w (handed w s o)
   handed_stands s None p = λ i. refl

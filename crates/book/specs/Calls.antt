@@ -2,7 +2,6 @@
 use Rattle.std.specs.Prelude.{ℕ, Bool, false, not, ◌&&◌, ◌||◌, ltb, List, [], ◌∷◌, ◌++◌, is_some, Some, None, Option, nat_lt}
 use Rattle.tasksets.specs.Sets.{none, those}
 use Rattle.waits.specs.declared.parts.Wait.TheVariants.{Ready, AtSemaphore}
-use Rattle.waits.specs.declared.parts.Holder.TheVariants.{Free}
 use Rattle.waits.specs.Waits.{Waits, waiting, held_by, held, helped_by, belongs, doing, put, with_task}
 use Rattle.waits.specs.Changes.{with_semaphore, turned, taken, come, handed, released}
 use Rattle.book.specs.declared.call.Call.{Call}
@@ -10,6 +9,18 @@ use Rattle.book.specs.declared.call.Call.TheVariants.{Task, Untask, Base, Sem, U
 use Rattle.book.specs.declared.refusal.Refusal.{Refusal}
 use Rattle.book.specs.declared.refusal.Refusal.TheVariants.{FewRows, Over63, NotDeclared, AlreadyThere, CallerWaits, NotWaiting, NotHolder, HoldsIt, HeldByOther, InUse}
 use Rattle.book.specs.Book.{Book, first}
+
+-- a call with another value in place of its own, if it has one
+abbrev pub map_call : {U V : Type 0} → (U → V) → Call U → Call V
+map_call f (Task t v) = Task t (f v)
+map_call f (Untask t) = Untask t
+map_call f (Base t v) = Base t (f v)
+map_call f (Sem s) = Sem s
+map_call f (Unsem s) = Unsem s
+map_call f (Lock t s) = Lock t s
+map_call f (Try t s) = Try t s
+map_call f (Unlock t s) = Unlock t s
+map_call f (Release t) = Release t
 
 -- what a call names
 pub data Thing : Type 0 where
@@ -91,7 +102,7 @@ module _ {U : Type 0} where
   waits_after pick w (Task t v) = with_task w t (Some Ready)
   waits_after pick w (Untask t) = with_task w t None
   waits_after pick w (Base t v) = w
-  waits_after pick w (Sem s) = with_semaphore w s (Some Free)
+  waits_after pick w (Sem s) = with_semaphore w s (Some None)
   waits_after pick w (Unsem s) = with_semaphore (turned w (AtSemaphore s) Ready) s None
   waits_after pick w (Lock t s) = come w t s
   waits_after pick w (Try t s) = taken w t s

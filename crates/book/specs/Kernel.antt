@@ -1,7 +1,6 @@
 -- A kernel by what its table and rows hold; what a call does to it; a run of calls.
-use Rattle.std.specs.Prelude.{◌≡◌, ℕ, zero, suc, Bool, T, List, [], ◌∷◌, ◌++◌, map, length, is_ok, Some, None, Err, Option}
-use Rattle.std.specs.Option.{option_map}
-use Rattle.waits.specs.declared.parts.Wait.{Wait}
+use Rattle.std.specs.Prelude.{◌≡◌, ℕ, Bool, T, List, [], ◌∷◌, ◌++◌, map, length, is_ok, Err, Option, slice_get}
+use Rattle.std.specs.Option.{option_and, option_map}
 use Rattle.waits.specs.declared.parts.Wait.TheVariants.{Ready}
 use Rattle.waits.specs.Waits.{Waits, nothing, doing}
 use Rattle.waits.specs.Facts.{Present}
@@ -17,25 +16,17 @@ pub record State (U : Type 0) : Type 0 where
   pub waits : Waits
   pub rows : List (Row U)
 
--- x, if the task is present
-abbrev pub if_present : {A : Type 0} → Option Wait → Option A → Option A
-if_present None x = None
-if_present (Some w) x = x
-
 module _ {U : Type 0} where
-  -- row i, if there is one
-  abbrev pub row_at : List (Row U) → ℕ → Option (Row U)
-  row_at [] i = None
-  row_at (r ∷ rs) zero = Some r
-  row_at (r ∷ rs) (suc i) = row_at rs i
-
   -- the book that a kernel holds: the waits of its table, and the bases in the rows of present tasks
   abbrev pub book_of : State U → Book U
-  book_of k = record { waits = k.waits; base = λ i. if_present (k.waits.tasks i) (option_map (λ r. r.base) (row_at k.rows i)) }
+  book_of k = record { waits = k.waits; base = λ i. option_and (k.waits.tasks i) (option_map (λ r. r.base) (slice_get k.rows i)) }
 
-  -- the levels that the rows hold
+  -- the levels in the rows
+  abbrev pub row_levels : List (Row U) → ℕ → Option U
+  row_levels rows i = option_map (λ r. r.level) (slice_get rows i)
+
   abbrev pub levels_of : State U → ℕ → Option U
-  levels_of k i = option_map (λ r. r.level) (row_at k.rows i)
+  levels_of k = row_levels k.rows
 
   -- a kernel over rows, as it is opened
   abbrev pub opened : List (Row U) → State U
@@ -44,7 +35,7 @@ module _ {U : Type 0} where
   -- the rows of tasks that are absent in k', and so all past the first 64, are as they were
   pub record Kept (k k' : State U) : Type 0 where
     pub size : length k'.rows ≡ length k.rows
-    pub rest : (i : ℕ) → (Present k'.waits i → ⊥) → row_at k'.rows i ≡ row_at k.rows i
+    pub rest : (i : ℕ) → (Present k'.waits i → ⊥) → slice_get k'.rows i ≡ slice_get k.rows i
 
   -- the calls of a log
   abbrev pub calls : List (LogEntry U) → List (Call U)
@@ -59,7 +50,7 @@ module _ {U : Type 0} (urgent : U → U → Bool) where
   abbrev pub Right : State U → Type 0
   Right k = (t : ℕ) → Present k.waits t → levels_of k t ≡ level urgent (book_of k) t
 
-  -- what the contract of every call says
+  -- what a call does to a kernel's state, by the levels that its rows held
   pub record Made (k : State U) (c : Call U) (r : Reply) (k' : State U) : Type 0 where
     -- the book's step and reply, by the levels that the rows held
     pub stepped : (book_of k', r) ≡ step_by urgent (levels_of k) (length k.rows) (book_of k) c

@@ -6,7 +6,7 @@ use Rattle.waits.specs.Chain.{Chain, Ring, From}
 use Rattle.waits.specs.Waits.{awaited, Awaits}
 use Rattle.waits.specs.Facts.{Present, IsReady, Facts}
 use Rattle.book.specs.declared.call.Call.{Call}
-use Rattle.book.specs.declared.call.Call.TheVariants.{Task, Untask, Base, Sem, Unsem, Lock, Try, Unlock, Release}
+use Rattle.book.specs.declared.call.Call.TheVariants.{Lock}
 use Rattle.book.specs.declared.refusal.Refusal.{Refusal}
 use Rattle.book.specs.declared.refusal.Refusal.TheVariants.{WouldRing}
 use Rattle.book.specs.Refusals.{number_of}
@@ -51,15 +51,8 @@ module _ {U : Type 0} (urgent : U → U → Bool) where
 
   -- the calls whose step can make a ring
   abbrev pub may_ring : Call U → Bool
-  may_ring (Task t v) = false
-  may_ring (Untask t) = false
-  may_ring (Base t v) = false
-  may_ring (Sem s) = false
-  may_ring (Unsem s) = false
   may_ring (Lock t s) = true
-  may_ring (Try t s) = false
-  may_ring (Unlock t s) = false
-  may_ring (Release t) = false
+  may_ring _ = false
 
   -- a call c on the book b, with n rows, leaves the book x and answers r
   pub record AtEachCall (n : ℕ) (b : Book U) (c : Call U) (x : Book U) (r : Reply) : Type 0 where

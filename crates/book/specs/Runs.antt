@@ -6,7 +6,7 @@ use Rattle.waits.specs.declared.parts.Wait.TheVariants.{Ready}
 use Rattle.waits.specs.Waits.{Waits, does, waiting}
 use Rattle.waits.specs.Reach.{ring}
 use Rattle.book.specs.declared.call.Call.{Call}
-use Rattle.book.specs.declared.call.Call.TheVariants.{Task, Untask, Base, Sem, Unsem, Lock, Try, Unlock, Release}
+use Rattle.book.specs.declared.call.Call.TheVariants.{Lock}
 use Rattle.book.specs.declared.refusal.Refusal.{Refusal}
 use Rattle.book.specs.declared.refusal.Refusal.TheVariants.{WouldRing}
 use Rattle.book.specs.Book.{Book, empty, level}
@@ -25,17 +25,10 @@ earliest ((k, x) ∷ xs) = cond x (Some k) (earliest xs)
 abbrev pub woken : Waits → Waits → ℕ
 woken w x = those (λ i. waiting w i && does Ready (x.tasks i))
 
--- the caller of `lock` or `wait` is left waiting
+-- the caller is left waiting: just where the call is `lock` and t waits after it
 abbrev pub left_waiting : {U : Type 0} → Waits → Call U → Bool
-left_waiting x (Task t v) = false
-left_waiting x (Untask t) = false
-left_waiting x (Base t v) = false
-left_waiting x (Sem s) = false
-left_waiting x (Unsem s) = false
 left_waiting x (Lock t s) = waiting x t
-left_waiting x (Try t s) = false
-left_waiting x (Unlock t s) = false
-left_waiting x (Release t) = false
+left_waiting x _ = false
 
 module _ {U : Type 0} (urgent : U → U → Bool) where
   -- changed: the tasks that are present before and after, and whose level differs

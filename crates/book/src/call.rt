@@ -5,7 +5,7 @@ use super::refusal::Refusal;
 use tasksets::TaskSet;
 
 /// A call on a kernel, with its arguments.
-#[derive(Clone, Copy)]
+#[derive(Clone, Copy, Debug, PartialEq, Eq)]
 pub enum Call<U> {
     Task(u32, U),
     Untask(u32),
@@ -18,11 +18,11 @@ pub enum Call<U> {
     Release(u32),
 }
 
-/// What a call answers: whether its caller is left waiting, the woken tasks and the changed tasks; or the refusal.
+/// What a call answers: whether its caller is left waiting, the woken tasks and the changed tasks, as a flag and two masks; or the refusal.
 pub type Reply = Result<(bool, TaskSet, TaskSet), Refusal>;
 
 /// A call of a run, and what came of it: the reply, and the task that runs after it.
-#[derive(Clone, Copy)]
+#[derive(Clone, Copy, Debug, PartialEq, Eq)]
 pub struct LogEntry<U> {
     pub call: Call<U>,
     pub reply: Reply,

@@ -2,50 +2,50 @@ ghost use Rattle.std.specs.Prelude.{◌≡◌};
 ghost use Rattle.book.specs.Refusals.{number_of};
 
 /// Why a call is refused. The one that is given is the first in this order that applies.
-#[derive(Clone, Copy)]
+#[derive(Clone, Copy, Debug, PartialEq, Eq)]
 pub enum Refusal {
     /// A script has over 60,000 bytes or 4,096 lines, or a line number is outside 2 to 4,096.
-    TooLarge,
+    TooLarge = 1,
     /// The output buffer has fewer than 400 bytes.
-    ShortBuffer,
+    ShortBuffer = 2,
     /// There are fewer than 64 rows.
-    FewRows,
+    FewRows = 3,
     /// Line 1 is no order line, or missing.
-    NoOrder,
+    NoOrder = 4,
     /// A line has over 200 bytes.
-    LongLine,
+    LongLine = 5,
     /// A line is no form.
-    NoForm,
+    NoForm = 6,
     /// The word names no call.
-    UnknownCall,
+    UnknownCall = 7,
     /// The arguments are not those of the call.
-    WrongArguments,
+    WrongArguments = 8,
     /// A number is too large to be one, or a value is outside its order's range.
-    OutOfRange,
+    OutOfRange = 9,
     /// The number of a task, semaphore or condition is over 63.
-    Over63,
+    Over63 = 10,
     /// What the call needs is not present.
-    NotDeclared,
+    NotDeclared = 11,
     /// What the call would make is present already.
-    AlreadyThere,
+    AlreadyThere = 12,
     /// The caller is waiting.
-    CallerWaits,
+    CallerWaits = 13,
     /// The task to release is not waiting.
-    NotWaiting,
+    NotWaiting = 14,
     /// The caller does not hold the semaphore.
-    NotHolder,
+    NotHolder = 15,
     /// The caller holds the semaphore already.
-    HoldsIt,
+    HoldsIt = 16,
     /// Another task holds the semaphore.
-    HeldByOther,
+    HeldByOther = 17,
     /// The caller holds a further semaphore.
-    HoldsFurther,
+    HoldsFurther = 18,
     /// What is to end is in use.
-    InUse,
+    InUse = 19,
     /// The helper to add is there, or the one to drop is not.
-    HelperAsItIs,
+    HelperAsItIs = 20,
     /// The step would make a ring.
-    WouldRing,
+    WouldRing = 21,
 }
 
 impl Refusal {
@@ -53,28 +53,6 @@ impl Refusal {
     pub fn number(self) -> u32
         ensures { result ≡ number_of self }
     {
-        match self {
-            Refusal::TooLarge => 1,
-            Refusal::ShortBuffer => 2,
-            Refusal::FewRows => 3,
-            Refusal::NoOrder => 4,
-            Refusal::LongLine => 5,
-            Refusal::NoForm => 6,
-            Refusal::UnknownCall => 7,
-            Refusal::WrongArguments => 8,
-            Refusal::OutOfRange => 9,
-            Refusal::Over63 => 10,
-            Refusal::NotDeclared => 11,
-            Refusal::AlreadyThere => 12,
-            Refusal::CallerWaits => 13,
-            Refusal::NotWaiting => 14,
-            Refusal::NotHolder => 15,
-            Refusal::HoldsIt => 16,
-            Refusal::HeldByOther => 17,
-            Refusal::HoldsFurther => 18,
-            Refusal::InUse => 19,
-            Refusal::HelperAsItIs => 20,
-            Refusal::WouldRing => 21,
-        }
+        self as u32
     }
 }

@@ -1,5 +1,5 @@
 /// A task row: the base of a task, and its level.
-#[derive(Clone, Copy)]
+#[derive(Clone, Copy, Debug, PartialEq, Eq)]
 pub struct Row<U> {
     pub base: U,
     pub level: U,

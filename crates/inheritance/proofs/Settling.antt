@@ -1,11 +1,11 @@
 -- The loop that writes the levels into the rows, task by task.
-use Rattle.std.proofs.Common.{◌≡◌, ℕ, zero, suc, ◌+◌, ◌^◌, ◌<◌, ◌≤◌, Bool, true, false, cond, not, ◌&&◌, T, ◌⊎◌, List, length, is_some, Some, None, Option, sym, refl, ap, ◌∙◌, subst, inl, inr, arith, pow_mono}
+use Rattle.std.proofs.Common.{◌≡◌, ℕ, zero, suc, ◌+◌, ◌^◌, ◌<◌, ◌≤◌, Bool, true, false, cond, not, ◌&&◌, T, ◌⊎◌, List, length, is_some, Some, None, Option, sym, refl, ap, ◌∙◌, subst, inl, inr, arith, pow_mono, slice_get}
 use mathlib.Core.Path.{fun_ext}
 use native.Mathlib.Decide.{ℕ_discrete, dec_lt}
-use Rattle.std.specs.Option.{option_map}
+use Rattle.std.specs.Option.{option_and, option_map}
 use Rattle.urgency.specs.Order.{upper, same}
 use Rattle.tasksets.specs.Sets.{has, those_below}
-use Rattle.tasksets.proofs.Those.{T_has, below_lt, those_start}
+use Rattle.tasksets.proofs.Sets.{T_has, below_lt, those_start}
 use Rattle.waits.specs.declared.parts.Wait.{Wait}
 use Rattle.waits.specs.declared.table.WaitTable.{WaitTable}
 use Rattle.waits.specs.Chain.{here}
@@ -17,8 +17,8 @@ use Rattle.waits.proofs.Reach.{leading_all}
 use Rattle.waits.proofs.Tables.{facts_of}
 use Rattle.book.specs.declared.row.Row.{Row}
 use Rattle.book.specs.Book.{most_below, level}
-use Rattle.book.specs.Kernel.{row_at, if_present}
-use Rattle.inheritance.specs.Rows.{held, row_levels, releveled, Settled}
+use Rattle.book.specs.Kernel.{row_levels}
+use Rattle.inheritance.specs.Rows.{held, releveled, Settled}
 use Rattle.inheritance.proofs.Rows.{row_some}
 use Rattle.inheritance.proofs.Mosts.{most_same}
 
@@ -57,8 +57,8 @@ module _ {U : Type 0} (urgent : U → U → Bool) (t : WaitTable) (standing : �
 
   -- the tasks below n have their levels, the others are still to come
   pub record Settling (n : ℕ) (now : List (Row U)) (changed : ℕ) : Type 0 where
-    pub done : (j : ℕ) → j < n → row_at now j ≡ option_map (releveled ((waits_of t).tasks j) (to j)) (row_at rows j)
-    pub rest : (j : ℕ) → n ≤ j → row_at now j ≡ row_at rows j
+    pub done : (j : ℕ) → j < n → slice_get now j ≡ option_map (releveled ((waits_of t).tasks j) (to j)) (slice_get rows j)
+    pub rest : (j : ℕ) → n ≤ j → slice_get now j ≡ slice_get rows j
     pub found : changed ≡ those_below n noted
 
   pub settling_start : Settling 0 rows 0
@@ -72,10 +72,10 @@ module _ {U : Type 0} (urgent : U → U → Bool) (t : WaitTable) (standing : �
 
   -- levels alone are written: the book stays
   pub settling_book : (n : ℕ) (now : List (Row U)) (changed : ℕ) → Settling n now changed → held t now ≡ held t rows
-  settling_book n now changed s = ap (λ f. record { waits = waits_of t; base = f }) (fun_ext (λ i. ap (if_present ((waits_of t).tasks i)) (go i (dec_lt i n))))
+  settling_book n now changed s = ap (λ f. record { waits = waits_of t; base = f }) (fun_ext (λ i. ap (option_and ((waits_of t).tasks i)) (go i (dec_lt i n))))
     where
-      go : (i : ℕ) → Dec (i < n) → option_map (λ r. r.base) (row_at now i) ≡ option_map (λ r. r.base) (row_at rows i)
-      go i (yes l) = ap (option_map (λ r. r.base)) (s.done i l) ∙ same_base ((waits_of t).tasks i) (to i) (row_at rows i)
+      go : (i : ℕ) → Dec (i < n) → option_map (λ r. r.base) (slice_get now i) ≡ option_map (λ r. r.base) (slice_get rows i)
+      go i (yes l) = ap (option_map (λ r. r.base)) (s.done i l) ∙ same_base ((waits_of t).tasks i) (to i) (slice_get rows i)
       go i (no l) = ap (option_map (λ r. r.base)) (s.rest i (omega arith))
 
   pub settling_lt : (n changed : ℕ) → n < 64 → changed ≡ those_below n noted → changed < 2 ^ 64
@@ -84,7 +84,7 @@ module _ {U : Type 0} (urgent : U → U → Bool) (t : WaitTable) (standing : �
   -- a turn: the level is worked out, compared and written
   module _ (n : ℕ) (now next : List (Row U)) (changed changed' set : ℕ) (u : Option U) (s : Settling n now changed) (l : n < 64)
       (members : (j : ℕ) → j < 64 → has set j ≡ has (leading (waits_of t) n) j) (most : u ≡ most_below urgent (held t now).base 64 set)
-      (here : row_at next n ≡ option_map (releveled ((waits_of t).tasks n) u) (row_at now n)) (others : (j : ℕ) → (j ≡ n → ⊥) → row_at next j ≡ row_at now j) where
+      (here : slice_get next n ≡ option_map (releveled ((waits_of t).tasks n) u) (slice_get now n)) (others : (j : ℕ) → (j ≡ n → ⊥) → slice_get next j ≡ slice_get now j) where
     pub turn_level : u ≡ to n
     turn_level = most ∙ most_same urgent (held t now).base 64 set (leading (waits_of t) n) members ∙ ap (λ b. level urgent b n) (settling_book n now changed s)
 
@@ -95,10 +95,10 @@ module _ {U : Type 0} (urgent : U → U → Bool) (t : WaitTable) (standing : �
     pub settling_turn : changed' ≡ those_below (n + 1) noted → Settling (n + 1) next changed'
     settling_turn e = record { done = λ j b. done j b (ℕ_discrete j n); rest = λ j b. others j (λ q. omega arith) ∙ s.rest j (omega arith); found = e }
       where
-        done : (j : ℕ) → j < n + 1 → Dec (j ≡ n) → row_at next j ≡ option_map (releveled ((waits_of t).tasks j) (to j)) (row_at rows j)
+        done : (j : ℕ) → j < n + 1 → Dec (j ≡ n) → slice_get next j ≡ option_map (releveled ((waits_of t).tasks j) (to j)) (slice_get rows j)
         done j b (yes q) =
-            ap (row_at next) q ∙ here ∙ ap (option_map (releveled ((waits_of t).tasks n) u)) (s.rest n (omega arith)) ∙ ap (λ u. option_map (releveled ((waits_of t).tasks n) u) (row_at rows n)) turn_level
-            ∙ sym (ap (λ j. option_map (releveled ((waits_of t).tasks j) (to j)) (row_at rows j)) q)
+            ap (slice_get next) q ∙ here ∙ ap (option_map (releveled ((waits_of t).tasks n) u)) (s.rest n (omega arith)) ∙ ap (λ u. option_map (releveled ((waits_of t).tasks n) u) (slice_get rows n)) turn_level
+            ∙ sym (ap (λ j. option_map (releveled ((waits_of t).tasks j) (to j)) (slice_get rows j)) q)
         done j b (no q) = others j q ∙ s.done j (omega arith)
 
   -- all 64 are done
@@ -107,12 +107,12 @@ module _ {U : Type 0} (urgent : U → U → Bool) (t : WaitTable) (standing : �
     written : (i : ℕ) → Present (waits_of t) i → i < length rows → row_levels now i ≡ to i
     written i p there =
         let low = (facts_of t).sound.tasks< i p in
-        ap (option_map (λ r. r.level)) (s.done i low) ∙ go ((waits_of t).tasks i) p (row_at rows i) (row_some rows i there) (to i) (most_some urgent (held t rows).base (leading (waits_of t) i) 64 i low (self i low) (based i ((waits_of t).tasks i) p (row_at rows i) (row_some rows i there)))
+        ap (option_map (λ r. r.level)) (s.done i low) ∙ go ((waits_of t).tasks i) p (slice_get rows i) (row_some rows i there) (to i) (most_some urgent (held t rows).base (leading (waits_of t) i) 64 i low (self i low) (based i ((waits_of t).tasks i) p (slice_get rows i) (row_some rows i there)))
       where
         self : (i : ℕ) → i < 64 → has (leading (waits_of t) i) i ≡ true
         self i l = true_of (has (leading (waits_of t) i) i) (T_has (leading (waits_of t) i) i (leading_all (waits_of t) (facts_of t).sound i l i here))
 
-        based : (i : ℕ) (o : Option Wait) → T (is_some o) → (r : Option (Row U)) → T (is_some r) → T (is_some (if_present o (option_map (λ r. r.base) r)))
+        based : (i : ℕ) (o : Option Wait) → T (is_some o) → (r : Option (Row U)) → T (is_some r) → T (is_some (option_and o (option_map (λ r. r.base) r)))
         based i (Some w) p (Some r) q = tt
         based i (Some w) p None q = q
         based i None p r q = absurd p
@@ -123,7 +123,7 @@ module _ {U : Type 0} (urgent : U → U → Bool) (t : WaitTable) (standing : �
         go (Some w) p None q u h = absurd q
         go None p r q u h = absurd p
 
-    unwritten : (i : ℕ) → (Present (waits_of t) i → ⊥) → row_at now i ≡ row_at rows i
+    unwritten : (i : ℕ) → (Present (waits_of t) i → ⊥) → slice_get now i ≡ slice_get rows i
     unwritten i ne = go (dec_lt i 64)
       where
         same_row : (o : Option Wait) → (T (is_some o) → ⊥) → (u : Option U) (r : Option (Row U)) → option_map (releveled o u) r ≡ r
@@ -131,8 +131,8 @@ module _ {U : Type 0} (urgent : U → U → Bool) (t : WaitTable) (standing : �
         same_row None ne u (Some r) = refl
         same_row (Some w) ne u r = absurd (ne tt)
 
-        go : Dec (i < 64) → row_at now i ≡ row_at rows i
-        go (yes l) = s.done i l ∙ same_row ((waits_of t).tasks i) ne (to i) (row_at rows i)
+        go : Dec (i < 64) → slice_get now i ≡ slice_get rows i
+        go (yes l) = s.done i l ∙ same_row ((waits_of t).tasks i) ne (to i) (slice_get rows i)
         go (no l) = s.rest i (omega arith)
 
     pub settled : Settled urgent t standing rows now changed

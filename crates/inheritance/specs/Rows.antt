@@ -1,6 +1,5 @@
 -- What task rows hold beside a wait table.
 use Rattle.std.specs.Prelude.{◌≡◌, ℕ, ◌<◌, Bool, not, ◌&&◌, List, length, Some, None, Option}
-use Rattle.std.specs.Option.{option_map}
 use Rattle.urgency.specs.Order.{same}
 use Rattle.tasksets.specs.Sets.{has, those}
 use Rattle.waits.specs.declared.parts.Wait.{Wait}
@@ -9,7 +8,7 @@ use Rattle.waits.specs.Facts.{Present}
 use Rattle.waits.specs.Table.{waits_of}
 use Rattle.book.specs.declared.row.Row.{Row}
 use Rattle.book.specs.Book.{Book, level}
-use Rattle.book.specs.Kernel.{State, row_at, book_of, Kept}
+use Rattle.book.specs.Kernel.{State, book_of, row_levels, Kept}
 
 module _ {U : Type 0} where
   -- a table and rows, together
@@ -19,10 +18,6 @@ module _ {U : Type 0} where
   -- the book that they hold
   abbrev pub held : WaitTable → List (Row U) → Book U
   held t rows = book_of (both t rows)
-
-  -- the levels in the rows
-  abbrev pub row_levels : List (Row U) → ℕ → Option U
-  row_levels rows i = option_map (λ r. r.level) (row_at rows i)
 
   -- the row with another level, where its task is present
   abbrev pub releveled : Option Wait → Option U → Row U → Row U

@@ -1,66 +1,47 @@
 //! Inheritance of urgency: the levels of all tasks, worked out over the task rows, and the first of a set by its level.
 #![tactic(auto)]
 
-ghost use Rattle.std.specs.Prelude.{◌≡◌, ℕ, not, ◌&&◌, ◌≢◌};
+ghost use Rattle.std.specs.Prelude.{◌≡◌, ℕ, not, ◌&&◌, ◌≢◌, slice_get};
 ghost use Rattle.std.specs.Option.{option_map};
 ghost use Rattle.urgency.specs.Order.{same};
 ghost use Rattle.tasksets.specs.Sets.{has};
 ghost use Rattle.waits.specs.Table.{waits_of};
 ghost use Rattle.book.specs.Book.{most_below, better, first};
-ghost use Rattle.book.specs.Kernel.{row_at};
-ghost use Rattle.inheritance.specs.Rows.{held, row_levels, releveled, Settled};
+ghost use Rattle.book.specs.Kernel.{row_levels};
+ghost use Rattle.inheritance.specs.Rows.{held, releveled, Settled};
 
 use book::Row;
-use tasksets::{TaskSet, contains, smallest, with, without};
+use tasksets::{TaskSet, contains, members, with};
 use urgency::{Urgency, at_least, most_urgent, same_urgency};
 use waits::WaitTable;
 
 /// Row i, if there is one.
 pub fn row<U: Urgency>(rows: &[Row<U>], i: u32) -> Option<Row<U>>
-    ensures { result ≡ row_at rows.now i }
+    ensures { result ≡ slice_get rows.now i }
 {
-    let at = i as usize;
-    if at < rows.len() {
-        Some(rows[at])
-    } else {
-        None
-    }
+    rows.get(i as usize).copied()
 }
 
 /// The level in row i, if there is such a row.
 pub fn level_in<U: Urgency>(rows: &[Row<U>], i: u32) -> Option<U>
     ensures { result ≡ row_levels rows.now i }
 {
-    match row(rows, i) {
-        None => None,
-        Some(found) => Some(found.level),
-    }
+    row(rows, i).map(|row| row.level)
 }
 
 /// The base of task i, if it is present.
 pub fn base_in<U: Urgency>(table: &WaitTable, rows: &[Row<U>], i: u32) -> Option<U>
     ensures { result ≡ (held table.now rows.now).base i }
 {
-    let Some(_) = table.task(i) else {
-        return None;
-    };
-    match row(rows, i) {
-        None => None,
-        Some(found) => Some(found.base),
-    }
+    table.task(i)?;
+    row(rows, i).map(|row| row.base)
 }
 
 /// The most urgent base among the tasks of a set.
 fn most<U: Urgency>(table: &WaitTable, rows: &[Row<U>], set: TaskSet) -> Option<U>
     ensures { result ≡ most_below U.urgent (held table.now rows.now).base 64 set }
 {
-    let mut top: Option<U> = None;
-    let mut left = set;
-    while let Some(i) = smallest(left) {
-        top = most_urgent(top, base_in(table, rows, i));
-        left = without(left, i);
-    }
-    top
+    members(set).fold(None, |top, i| most_urgent(top, base_in(table, rows, i)))
 }
 
 /// Whether task t is of the set and its row holds another level than this one.
@@ -72,17 +53,14 @@ fn differs<U: Urgency>(rows: &[Row<U>], set: TaskSet, t: u32, level: Option<U>) 
 
 /// Writes a level into row t, if task t is present.
 fn put_level<U: Urgency>(table: &WaitTable, rows: &mut [Row<U>], t: u32, level: Option<U>)
-    ensures here { row_at rows.new t ≡ option_map (releveled ((waits_of table.now).tasks t) level) (row_at rows.old t) }
-    ensures others { (j : ℕ) → (j ≢ t) → row_at rows.new j ≡ row_at rows.old j }
+    ensures here { slice_get rows.new t ≡ option_map (releveled ((waits_of table.now).tasks t) level) (slice_get rows.old t) }
+    ensures others { (j : ℕ) → (j ≢ t) → slice_get rows.new j ≡ slice_get rows.old j }
 {
     let at = t as usize;
     if at >= rows.len() {
         return;
     }
-    let Some(_) = table.task(t) else {
-        return;
-    };
-    let Some(level) = level else {
+    let Some(level) = table.task(t).and(level) else {
         return;
     };
     rows[at].level = level;
@@ -92,10 +70,9 @@ fn put_level<U: Urgency>(table: &WaitTable, rows: &mut [Row<U>], t: u32, level: 
 pub fn settle<U: Urgency>(table: &WaitTable, standing: TaskSet, rows: &mut [Row<U>]) -> TaskSet
     ensures { Settled U.urgent table.now standing rows.old rows.new result }
 {
-    let leading = table.leading();
     let mut changed: TaskSet = 0;
-    for t in 0..64u32 {
-        let level = most(table, rows, leading[t as usize]);
+    for (t, leading) in (0..64u32).zip(table.leading()) {
+        let level = most(table, rows, leading);
         if differs(rows, standing, t, level) {
             changed = with(changed, t);
         }
@@ -108,13 +85,9 @@ pub fn settle<U: Urgency>(table: &WaitTable, standing: TaskSet, rows: &mut [Row<
 fn better<U: Urgency>(rows: &[Row<U>], best: Option<u32>, i: u32) -> Option<u32>
     ensures { result ≡ better U.urgent (row_levels rows.now) best i }
 {
-    let Some(k) = best else {
-        return Some(i);
-    };
-    if at_least(level_in(rows, k), level_in(rows, i)) {
-        best
-    } else {
-        Some(i)
+    match best {
+        Some(k) if at_least(level_in(rows, k), level_in(rows, i)) => best,
+        _ => Some(i),
     }
 }
 
@@ -123,6 +96,7 @@ pub fn first<U: Urgency>(rows: &[Row<U>], set: TaskSet) -> Option<u32>
     ensures { result ≡ first U.urgent (row_levels rows.now) set }
 {
     let mut best: Option<u32> = None;
+    // A loop over the rows with index, rising: where levels are equal the smallest number stays.
     for i in 0..64u32 {
         if contains(set, i) {
             best = better(rows, best, i);

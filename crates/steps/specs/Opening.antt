@@ -1,8 +1,7 @@
 -- How every call by a ready task on a semaphore begins.
 use Rattle.std.specs.Prelude.{◌≡◌, ℕ, ◌<◌, Bool, not, List, [], ◌∷◌, Some, None, Ok, Err, Result, nat_lt}
 use Rattle.waits.specs.declared.parts.Wait.TheVariants.{Ready}
-use Rattle.waits.specs.declared.parts.Holder.{Holder}
-use Rattle.waits.specs.Waits.{Waits, waiting}
+use Rattle.waits.specs.Waits.{Holder, Waits, waiting}
 use Rattle.book.specs.declared.refusal.Refusal.{Refusal}
 use Rattle.book.specs.declared.refusal.Refusal.TheVariants.{Over63, NotDeclared, CallerWaits}
 use Rattle.book.specs.Calls.{Thing, task, semaphore, number, there, some}

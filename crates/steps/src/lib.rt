@@ -1,5 +1,5 @@
 //! The rule of each call on the wait table: the refusal that applies first, or the table that comes next.
-#![tactic(auto)]
+#![tactic(auto, using(std::proofs::lemmas::Bool::Decides::nat_tests, waits::proofs::Tables::no_ring), unfolding(book::specs::Calls::refusals))]
 
 ghost use Rattle.std.specs.Prelude.{◌≡◌, ℕ, ◌<◌};
 ghost use Rattle.waits.specs.declared.parts.Wait.TheVariants.{AtSemaphore};
@@ -10,7 +10,7 @@ ghost use Rattle.waits.specs.Table.{waits_of};
 ghost use Rattle.book.specs.declared.call.Call.TheVariants.{Task, Untask, Base, Sem, Unsem, Lock, Try, Unlock, Release};
 ghost use Rattle.book.specs.Book.{first};
 ghost use Rattle.book.specs.Calls.{in_use, has_condition};
-ghost use Rattle.inheritance.specs.Rows.{row_levels};
+ghost use Rattle.book.specs.Kernel.{row_levels};
 ghost use Rattle.steps.specs.Judged.{Judged, nobody};
 ghost use Rattle.steps.specs.Opening.{Opened};
 
@@ -18,7 +18,7 @@ use book::{Refusal, Row};
 use inheritance::first;
 use tasksets::contains;
 use urgency::Urgency;
-use waits::{Holder, Test, Wait, WaitTable};
+use waits::{Holder, Wait, WaitTable};
 
 /// `task t`: t becomes present, and is ready.
 pub fn task(table: &WaitTable, t: u32) -> Result<WaitTable, Refusal>
@@ -75,7 +75,7 @@ pub fn sem(table: &WaitTable, s: u32) -> Result<WaitTable, Refusal>
     let None = table.semaphore(s) else {
         return Err(Refusal::AlreadyThere);
     };
-    Ok(table.with_semaphore(s, Some(Holder::Free)))
+    Ok(table.with_semaphore(s, Some(None)))
 }
 
 /// `unsem s`: s becomes absent; who waits there is ready without it, and no condition may belong to it.
@@ -100,10 +100,10 @@ pub fn lock(table: &WaitTable, t: u32, s: u32) -> Result<WaitTable, Refusal>
     ensures { Judged nobody (waits_of table.now) (Lock t s) result }
 {
     match caller(table, t, s)? {
-        Holder::Free => Ok(take(table, t, s)),
-        Holder::HeldBy(h) if h == t => Err(Refusal::HoldsIt),
-        Holder::HeldBy(h) if contains(table.reached(h), t) => Err(Refusal::WouldRing),
-        Holder::HeldBy(_) => Ok(table.with_task(t, Some(Wait::AtSemaphore(s)))),
+        None => Ok(take(table, t, s)),
+        Some(h) if h == t => Err(Refusal::HoldsIt),
+        Some(h) if contains(table.reached(h), t) => Err(Refusal::WouldRing),
+        Some(_) => Ok(table.with_task(t, Some(Wait::AtSemaphore(s)))),
     }
 }
 
@@ -112,9 +112,9 @@ pub fn try_lock(table: &WaitTable, t: u32, s: u32) -> Result<WaitTable, Refusal>
     ensures { Judged nobody (waits_of table.now) (Try t s) result }
 {
     match caller(table, t, s)? {
-        Holder::Free => Ok(take(table, t, s)),
-        Holder::HeldBy(h) if h == t => Err(Refusal::HoldsIt),
-        Holder::HeldBy(_) => Err(Refusal::HeldByOther),
+        None => Ok(take(table, t, s)),
+        Some(h) if h == t => Err(Refusal::HoldsIt),
+        Some(_) => Err(Refusal::HeldByOther),
     }
 }
 
@@ -128,9 +128,8 @@ pub fn unlock<U: Urgency>(
     ensures { Judged (first U.urgent (row_levels rows.now)) (waits_of table.now) (Unlock t s) result }
 {
     match caller(table, t, s)? {
-        Holder::Free => Err(Refusal::NotHolder),
-        Holder::HeldBy(h) if h == t => Ok(hand_on(table, rows, s)),
-        Holder::HeldBy(_) => Err(Refusal::NotHolder),
+        Some(h) if h == t => Ok(hand_on(table, rows, s)),
+        _ => Err(Refusal::NotHolder),
     }
 }
 
@@ -182,7 +181,7 @@ fn take(table: &WaitTable, t: u32, s: u32) -> WaitTable
     ensures { waits_of result ≡ taken (waits_of table.now) t s }
 {
     let ready = table.with_task(t, Some(Wait::Ready));
-    ready.with_semaphore(s, Some(Holder::HeldBy(t)))
+    ready.with_semaphore(s, Some(Some(t)))
 }
 
 /// Task t takes semaphore s if that is free, else it waits there.
@@ -191,12 +190,10 @@ fn come(table: &WaitTable, t: u32, s: u32) -> WaitTable
     requires bare { (z : ℕ) → Holds (waits_of table.now) t z → ⊥ }
     ensures { waits_of result ≡ come (waits_of table.now) t s }
 {
-    let Some(holder) = table.semaphore(s) else {
-        return *table;
-    };
-    match holder {
-        Holder::Free => take(table, t, s),
-        Holder::HeldBy(_) => table.with_task(t, Some(Wait::AtSemaphore(s))),
+    match table.semaphore(s) {
+        None => *table,
+        Some(None) => take(table, t, s),
+        Some(Some(_)) => table.with_task(t, Some(Wait::AtSemaphore(s))),
     }
 }
 
@@ -205,9 +202,9 @@ fn hand_on<U: Urgency>(table: &WaitTable, rows: &[Row<U>], s: u32) -> WaitTable
     requires { s < 64 }
     ensures { waits_of result ≡ handed (waits_of table.now) s (first U.urgent (row_levels rows.now) (doing (waits_of table.now) (AtSemaphore s))) }
 {
-    let queue = table.those(Test::Doing(Wait::AtSemaphore(s)));
+    let queue = table.doing(Wait::AtSemaphore(s));
     match first(rows, queue) {
-        None => table.with_semaphore(s, Some(Holder::Free)),
+        None => table.with_semaphore(s, Some(None)),
         Some(u) => take(table, u, s),
     }
 }
@@ -216,12 +213,12 @@ fn hand_on<U: Urgency>(table: &WaitTable, rows: &[Row<U>], s: u32) -> WaitTable
 fn in_use(table: &WaitTable, t: u32) -> bool
     ensures { result ≡ in_use (waits_of table.now) t }
 {
-    table.those(Test::HeldByTask(t)) != 0 || table.those(Test::HelpedByTask(t)) != 0
+    table.held_by(t) != 0 || table.helped_by(t) != 0
 }
 
 /// Whether a condition belongs to semaphore s.
 fn has_condition(table: &WaitTable, s: u32) -> bool
     ensures { result ≡ has_condition (waits_of table.now) s }
 {
-    table.those(Test::OfSemaphore(s)) != 0
+    table.belonging_to(s) != 0
 }

@@ -1,5 +1,5 @@
 use Rattle.std.proofs.Common.{sym, ◌∙◌}
-use Rattle.inheritance.specs.Rows.{row_levels}
+use Rattle.book.specs.Kernel.{row_levels}
 use Rattle.inheritance.proofs.Mosts.{first_none, first_in, first_out}
 use Rattle.inheritance.proofs.first.Goals as goal
 use Rattle.inheritance.proofs.first.Goals.{then-contains, else-contains}

@@ -1,6 +1,6 @@
 use Rattle.std.proofs.Common.{◌≡◌}
 use Rattle.book.specs.Book.{first_below}
-use Rattle.inheritance.specs.Rows.{row_levels}
+use Rattle.book.specs.Kernel.{row_levels}
 use Rattle.inheritance.proofs.first.Given as goal
 
 abbrev pub invariant-loop-i : goal.invariant-loop-i
