@@ -1,11 +1,12 @@
 -- One argument for every call: refused, it leaves all as it was; accepted, it does the book's step.
-use Rattle.std.proofs.Common.{◌≡◌, ℕ, ◌<◌, ◌≤◌, Bool, true, false, not, ◌&&◌, T, ltb, List, [], ◌∷◌, length, get_or, set, is_some, Some, None, Ok, Err, Option, sym, refl, ap, ◌∙◌, subst, true≢false, arith, length-set}
+use Rattle.std.proofs.Common.{◌≡◌, ℕ, ◌<◌, ◌≤◌, Bool, true, false, not, ◌&&◌, T, List, [], ◌∷◌, length, get_or, set, is_some, Some, None, Ok, Err, Option, sym, refl, ap, ◌∙◌, subst, true≢false, arith, length-set, slice_get}
 use mathlib.Core.Path.{fun_ext}
 use native.Mathlib.Decide.{ℕ_discrete}
-use Rattle.std.proofs.lemmas.Bool.Decides.{nat_tests}
-use Rattle.std.specs.Option.{option_map}
+use Rattle.std.proofs.lemmas.Bool.{lt-ltb, le-ltb}
+use Rattle.std.specs.Option.{option_and, option_map}
 use Rattle.urgency.specs.Order.{same}
-use Rattle.tasksets.proofs.Those.{those_same}
+use Rattle.urgency.specs.declared.Urgency.{Ghosts}
+use Rattle.tasksets.proofs.Sets.{those_same}
 use Rattle.waits.specs.declared.parts.Wait.{Wait}
 use Rattle.waits.specs.declared.parts.Wait.TheVariants.{Ready}
 use Rattle.waits.specs.Waits.{Waits, put, with_task}
@@ -18,20 +19,18 @@ use Rattle.book.specs.declared.refusal.Refusal.{Refusal}
 use Rattle.book.specs.declared.refusal.Refusal.TheVariants.{FewRows}
 use Rattle.book.specs.Book.{Book, level, first}
 use Rattle.book.specs.Calls.{task, refusals, waits_after, base_after, after}
-use Rattle.book.specs.Runs.{earliest, woken, changed, left_waiting, all_refusals, answer, kept_or, step_by}
-use Rattle.book.specs.Kernel.{State, row_at, if_present, book_of, levels_of, Made}
+use Rattle.book.specs.Runs.{Reply, earliest, woken, changed, left_waiting, all_refusals, answer, kept_or, step_by}
+use Rattle.book.specs.Kernel.{State, book_of, levels_of, Made}
+use Rattle.book.proofs.Agreeing.{step_same}
 use Rattle.book.proofs.Clear.{Clear, clear, clear_parts, all_below, all_there, all_absent}
 use Rattle.book.proofs.Firsts.{first_has}
 use Rattle.book.proofs.Standing.{alters_base, standing, base_kept}
 use Rattle.steps.specs.Judged.{refusal}
-use Rattle.inheritance.proofs.Rows.{row_there, row_set_same, row_set_other}
-use Rattle.kernel.specs.Inner.{asked, Within, Noted, Accepted}
-
-few : (n : ℕ) → n < 64 → ltb n 64 ≡ true
-few n l = grind (arith, nat_tests)
-
-enough : (n : ℕ) → 64 ≤ n → ltb n 64 ≡ false
-enough n l = grind (arith, nat_tests)
+use Rattle.std.proofs.lemmas.Option.{slice_get-get_or}
+use Rattle.inheritance.proofs.Rows.{row_set_same, row_set_other}
+use Rattle.kernel.specs.declared.Kernel.{Kernel}
+use Rattle.kernel.specs.Held.{state_of, MakesCall}
+use Rattle.kernel.specs.Inner.{asked, Within, noted, Accepted}
 
 module _ {U : Type 0} (urgent : U → U → Bool) (k : State U) (c : Call U) where
   -- the refusal that the book judges by
@@ -44,19 +43,19 @@ module _ {U : Type 0} (urgent : U → U → Bool) (k : State U) (c : Call U) whe
   judged_is l = go c
     where
       go : (c : Call U) → earliest (all_refusals urgent (length k.rows) (book_of k) c (after urgent (levels_of k) (book_of k) c)) ≡ refusal (first urgent (levels_of k)) k.waits (asked c)
-      go (Task t v) = rw (enough (length k.rows) l)
-      go (Untask t) = rw (enough (length k.rows) l)
-      go (Base t v) = rw (enough (length k.rows) l)
-      go (Sem s) = rw (enough (length k.rows) l)
-      go (Unsem s) = rw (enough (length k.rows) l)
-      go (Lock t s) = rw (enough (length k.rows) l)
-      go (Try t s) = rw (enough (length k.rows) l)
-      go (Unlock t s) = rw (enough (length k.rows) l)
-      go (Release t) = rw (enough (length k.rows) l)
+      go (Task t v) = rw (le-ltb (length k.rows) 64 l)
+      go (Untask t) = rw (le-ltb (length k.rows) 64 l)
+      go (Base t v) = rw (le-ltb (length k.rows) 64 l)
+      go (Sem s) = rw (le-ltb (length k.rows) 64 l)
+      go (Unsem s) = rw (le-ltb (length k.rows) 64 l)
+      go (Lock t s) = rw (le-ltb (length k.rows) 64 l)
+      go (Try t s) = rw (le-ltb (length k.rows) 64 l)
+      go (Unlock t s) = rw (le-ltb (length k.rows) 64 l)
+      go (Release t) = rw (le-ltb (length k.rows) 64 l)
 
   few_judged : length k.rows < 64 → judged ≡ Some FewRows
   unfolding refusals
-  few_judged l = rw (few (length k.rows) l)
+  few_judged l = rw (lt-ltb (length k.rows) 64 l)
 
   refused : (j : Refusal) → judged ≡ Some j → Made urgent k c (Err j) k
   unfolding step_by
@@ -91,8 +90,8 @@ module _ {U : Type 0} (urgent : U → U → Bool) (k : State U) (c : Call U) whe
   module _ (rows : List (Row U)) (waiting : Bool) (r : Bool × ℕ × ℕ) (k' : State U) (l : 64 ≤ length k.rows)
       (fine : refusal (first urgent (levels_of k)) k.waits (asked c) ≡ None)
       (bases : (i : ℕ) → (book_of (record { waits = next; rows = rows })).base i ≡ base_after (book_of k).base c i) (still : waiting ≡ left_waiting next c)
-      (levels : (i : ℕ) → Present k.waits i → Present next i → option_map (λ r. r.level) (row_at rows i) ≡ levels_of k i)
-      (size : length rows ≡ length k.rows) (rest : (i : ℕ) → (Present next i → ⊥) → row_at rows i ≡ row_at k.rows i)
+      (levels : (i : ℕ) → Present k.waits i → Present next i → option_map (λ r. r.level) (slice_get rows i) ≡ levels_of k i)
+      (size : length rows ≡ length k.rows) (rest : (i : ℕ) → (Present next i → ⊥) → slice_get rows i ≡ slice_get k.rows i)
       (a : Accepted urgent (record { waits = k.waits; rows = rows }) next waiting r k') where
     whole : Book U
     whole = after urgent (levels_of k) (book_of k) c
@@ -125,37 +124,38 @@ module _ {U : Type 0} (urgent : U → U → Bool) (k : State U) (c : Call U) whe
           ap (λ b. (b, Ok r)) reaches ∙ ap (λ r. (whole, Ok r)) answers
           ∙ sym (ap (λ r. (kept_or urgent (book_of k) whole r, answer urgent (levels_of k) (book_of k) c whole r)) (judged_is l ∙ fine));
       right = λ _. a.right;
-      refused = λ j e. absurd (never e);
+      refused = λ j e. cc;
       kept = record {
         size = a.kept.size ∙ size;
         rest = λ i h. a.kept.rest i h ∙ rest i (λ p. h (subst (λ w. Present w i) (sym a.waits) p));
       };
     }
-      where
-        never : {j : Refusal} → Ok r ≡ Err j → ⊥
-        never e = let z : ◌≡◌ {A = ℕ} 0 1 = cc in omega arith
 
 -- ---- the three calls that write bases or rows
 module _ {U : Type 0} (urgent : U → U → Bool) (k : State U) (t : ℕ) (r : Bool × ℕ × ℕ) (k' : State U) (l : 64 ≤ length k.rows) where
   -- the base of i is what its row holds, where i is present
   base_at : Waits → List (Row U) → ℕ → Option U
-  base_at w rows i = if_present (w.tasks i) (option_map (λ r. r.base) (row_at rows i))
+  base_at w rows i = option_and (w.tasks i) (option_map (λ r. r.base) (slice_get rows i))
 
   other : (i : ℕ) → (Present (with_task k.waits t (Some Ready)) i → ⊥) → i ≡ t → ⊥
   other i h e = h (subst (λ o. T (is_some o)) (sym (ap (put k.waits.tasks t (Some Ready)) e ∙ put_same k.waits.tasks t (Some Ready))) tt)
 
   module _ (v : U) where
-    row : Row U
+    abbrev row : Row U
     row = record { base = v; level = v }
 
+    -- the row of t under another base
+    abbrev rebased : Row U
+    rebased = record { base = v; level = (get_or k.rows t row).level }
+
     pub made_task : refusal (first urgent (levels_of k)) k.waits (Task t tt) ≡ None → t < 64 → k.waits.tasks t ≡ None
-        → Accepted urgent (record { waits = k.waits; rows = set k.rows t (record { base = v; level = v }) }) (with_task k.waits t (Some Ready)) false r k' → Made urgent k (Task t v) (Ok r) k'
-    unfolding row base_at
+        → Accepted urgent (record { waits = k.waits; rows = set k.rows t row }) (with_task k.waits t (Some Ready)) false r k' → Made urgent k (Task t v) (Ok r) k'
+    unfolding base_at
     made_task fine low absent a =
         made_accepted urgent k (Task t v) (set k.rows t row) false r k' l fine (λ i. bases i (ℕ_discrete i t)) refl (λ i p _. ap (option_map (λ r. r.level)) (away i (λ e. missing i e p)))
         (length-set k.rows t row) (λ i h. away i (other i h)) a
       where
-        away : (i : ℕ) → (i ≡ t → ⊥) → row_at (set k.rows t row) i ≡ row_at k.rows i
+        away : (i : ℕ) → (i ≡ t → ⊥) → slice_get (set k.rows t row) i ≡ slice_get k.rows i
         away i ne = row_set_other k.rows t i row ne
 
         missing : (i : ℕ) → i ≡ t → Present k.waits i → ⊥
@@ -164,13 +164,45 @@ module _ {U : Type 0} (urgent : U → U → Bool) (k : State U) (t : ℕ) (r : B
         bases : (i : ℕ) → Dec (i ≡ t) → base_at (with_task k.waits t (Some Ready)) (set k.rows t row) i ≡ put (book_of k).base t (Some v) i
         bases i (yes e) =
             ap (base_at (with_task k.waits t (Some Ready)) (set k.rows t row)) e
-            ∙ ap (λ o. if_present o (option_map (λ r. r.base) (row_at (set k.rows t row) t))) (put_same k.waits.tasks t (Some Ready))
+            ∙ ap (λ o. option_and o (option_map (λ r. r.base) (slice_get (set k.rows t row) t))) (put_same k.waits.tasks t (Some Ready))
             ∙ ap (option_map (λ r. r.base)) (row_set_same k.rows t row (omega arith))
             ∙ sym (ap (put (book_of k).base t (Some v)) e ∙ put_same (book_of k).base t (Some v))
         bases i (no ne) =
-            ap (λ o. if_present o (option_map (λ r. r.base) (row_at (set k.rows t row) i))) (put_other k.waits.tasks t (Some Ready) i ne)
-            ∙ ap (λ o. if_present (k.waits.tasks i) (option_map (λ r. r.base) o)) (away i ne)
+            ap (λ o. option_and o (option_map (λ r. r.base) (slice_get (set k.rows t row) i))) (put_other k.waits.tasks t (Some Ready) i ne)
+            ∙ ap (λ o. option_and (k.waits.tasks i) (option_map (λ r. r.base) o)) (away i ne)
             ∙ sym (put_other (book_of k).base t (Some v) i ne)
+
+    pub made_base : refusal (first urgent (levels_of k)) k.waits (Base t tt) ≡ None → t < 64 → Present k.waits t
+        → Accepted urgent (record { waits = k.waits; rows = set k.rows t rebased }) k.waits false r k' → Made urgent k (Base t v) (Ok r) k'
+    unfolding base_at
+    made_base fine low there a =
+        made_accepted urgent k (Base t v) rows false r k' l fine (λ i. bases i (ℕ_discrete i t)) refl (λ i _ _. level_at i (ℕ_discrete i t))
+        (length-set k.rows t rebased) (λ i h. away i (λ e. h (subst (Present k.waits) (sym e) there))) a
+      where
+        rows : List (Row U)
+        rows = set k.rows t rebased
+
+        away : (i : ℕ) → (i ≡ t → ⊥) → slice_get rows i ≡ slice_get k.rows i
+        away i ne = row_set_other k.rows t i rebased ne
+
+        here : slice_get rows t ≡ Some rebased
+        here = row_set_same k.rows t rebased (omega arith)
+
+        level_at : (i : ℕ) → Dec (i ≡ t) → option_map (λ r. r.level) (slice_get rows i) ≡ levels_of k i
+        level_at i (yes e) =
+            ap (λ i. option_map (λ r. r.level) (slice_get rows i)) e ∙ ap (option_map (λ r. r.level)) here
+            ∙ sym (ap (levels_of k) e ∙ ap (option_map (λ r. r.level)) (slice_get-get_or k.rows t row (omega arith)))
+        level_at i (no ne) = ap (option_map (λ r. r.level)) (away i ne)
+
+        present : (o : Option Wait) → T (is_some o) → (u : Option U) → option_and o u ≡ u
+        present (Some w) p u = refl
+        present None p u = absurd p
+
+        bases : (i : ℕ) → Dec (i ≡ t) → base_at k.waits rows i ≡ put (book_of k).base t (Some v) i
+        bases i (yes e) =
+            ap (base_at k.waits rows) e ∙ present (k.waits.tasks t) there (option_map (λ r. r.base) (slice_get rows t)) ∙ ap (option_map (λ r. r.base)) here
+            ∙ sym (ap (put (book_of k).base t (Some v)) e ∙ put_same (book_of k).base t (Some v))
+        bases i (no ne) = ap (λ o. option_and (k.waits.tasks i) (option_map (λ r. r.base) o)) (away i ne) ∙ sym (put_other (book_of k).base t (Some v) i ne)
 
   pub made_untask : refusal (first urgent (levels_of k)) k.waits (Untask t) ≡ None → Accepted urgent k (with_task k.waits t None) false r k' → Made urgent k (Untask t) (Ok r) k'
   unfolding base_at
@@ -178,42 +210,9 @@ module _ {U : Type 0} (urgent : U → U → Bool) (k : State U) (t : ℕ) (r : B
     where
       bases : (i : ℕ) → Dec (i ≡ t) → base_at (with_task k.waits t None) k.rows i ≡ put (book_of k).base t None i
       bases i (yes e) =
-          ap (base_at (with_task k.waits t None) k.rows) e ∙ ap (λ o. if_present o (option_map (λ r. r.base) (row_at k.rows t))) (put_same k.waits.tasks t None)
+          ap (base_at (with_task k.waits t None) k.rows) e ∙ ap (λ o. option_and o (option_map (λ r. r.base) (slice_get k.rows t))) (put_same k.waits.tasks t None)
           ∙ sym (ap (put (book_of k).base t None) e ∙ put_same (book_of k).base t None)
-      bases i (no ne) = ap (λ o. if_present o (option_map (λ r. r.base) (row_at k.rows i))) (put_other k.waits.tasks t None i ne) ∙ sym (put_other (book_of k).base t None i ne)
-
-  module _ (v : U) (rows : List (Row U)) (written : (d : Row U) → rows ≡ set k.rows t (record { base = v; level = (get_or k.rows t d).level })) where
-    pub made_base : refusal (first urgent (levels_of k)) k.waits (Base t tt) ≡ None → t < 64 → Present k.waits t
-        → Accepted urgent (record { waits = k.waits; rows = rows }) k.waits false r k' → Made urgent k (Base t v) (Ok r) k'
-    unfolding base_at
-    made_base fine low there a =
-        made_accepted urgent k (Base t v) rows false r k' l fine (λ i. bases i (ℕ_discrete i t)) refl (λ i _ _. level_at i (ℕ_discrete i t))
-        (ap length (written any) ∙ length-set k.rows t _) (λ i h. away i (λ e. h (subst (Present k.waits) (sym e) there))) a
-      where
-        any : Row U
-        any = record { base = v; level = v }
-
-        away : (i : ℕ) → (i ≡ t → ⊥) → row_at rows i ≡ row_at k.rows i
-        away i ne = ap (λ rows. row_at rows i) (written any) ∙ row_set_other k.rows t i _ ne
-
-        here : row_at rows t ≡ Some (record { base = v; level = (get_or k.rows t any).level })
-        here = ap (λ rows. row_at rows t) (written any) ∙ row_set_same k.rows t _ (omega arith)
-
-        level_at : (i : ℕ) → Dec (i ≡ t) → option_map (λ r. r.level) (row_at rows i) ≡ levels_of k i
-        level_at i (yes e) =
-            ap (λ i. option_map (λ r. r.level) (row_at rows i)) e ∙ ap (option_map (λ r. r.level)) here
-            ∙ sym (ap (levels_of k) e ∙ ap (option_map (λ r. r.level)) (row_there k.rows t any (omega arith)))
-        level_at i (no ne) = ap (option_map (λ r. r.level)) (away i ne)
-
-        present : (o : Option Wait) → T (is_some o) → (u : Option U) → if_present o u ≡ u
-        present (Some w) p u = refl
-        present None p u = absurd p
-
-        bases : (i : ℕ) → Dec (i ≡ t) → base_at k.waits rows i ≡ put (book_of k).base t (Some v) i
-        bases i (yes e) =
-            ap (base_at k.waits rows) e ∙ present (k.waits.tasks t) there (option_map (λ r. r.base) (row_at rows t)) ∙ ap (option_map (λ r. r.base)) here
-            ∙ sym (ap (put (book_of k).base t (Some v)) e ∙ put_same (book_of k).base t (Some v))
-        bases i (no ne) = ap (λ o. if_present (k.waits.tasks i) (option_map (λ r. r.base) o)) (away i ne) ∙ sym (put_other (book_of k).base t (Some v) i ne)
+      bases i (no ne) = ap (λ o. option_and o (option_map (λ r. r.base) (slice_get k.rows i))) (put_other k.waits.tasks t None i ne) ∙ sym (put_other (book_of k).base t None i ne)
 
 -- ---- the calls that neither make nor end a task nor alter a base
 module _ {U : Type 0} (urgent : U → U → Bool) (k : State U) (c : Call U) (plain : alters_base c ≡ false) (r : Bool × ℕ × ℕ) (k' : State U) (l : 64 ≤ length k.rows) where
@@ -223,7 +222,7 @@ module _ {U : Type 0} (urgent : U → U → Bool) (k : State U) (c : Call U) (pl
   pub made_plain : refusal (first urgent (levels_of k)) k.waits (asked c) ≡ None → Accepted urgent k leaves (left_waiting leaves c) r k' → Made urgent k c (Ok r) k'
   made_plain fine a = made_accepted urgent k c k.rows (left_waiting leaves c) r k' l fine bases refl (λ i _ _. refl) refl (λ i _. refl) a
     where
-      as_before : (o p : Option Wait) (u : Option U) → is_some o ≡ is_some p → if_present o u ≡ if_present p u
+      as_before : (o p : Option Wait) (u : Option U) → is_some o ≡ is_some p → option_and o u ≡ option_and p u
       as_before None None u e = refl
       as_before None (Some p) u e = absurd (true≢false (sym e))
       as_before (Some o) None u e = absurd (true≢false e)
@@ -231,7 +230,7 @@ module _ {U : Type 0} (urgent : U → U → Bool) (k : State U) (c : Call U) (pl
 
       bases : (i : ℕ) → (book_of (record { waits = leaves; rows = k.rows })).base i ≡ base_after (book_of k).base c i
       bases i =
-          as_before (leaves.tasks i) (k.waits.tasks i) (option_map (λ r. r.base) (row_at k.rows i)) (standing (first urgent (levels_of k)) k.waits (length k.rows) c plain (first_has urgent (levels_of k)) (fits urgent k c l fine) i)
+          as_before (leaves.tasks i) (k.waits.tasks i) (option_map (λ r. r.base) (slice_get k.rows i)) (standing (first urgent (levels_of k)) k.waits (length k.rows) c plain (first_has urgent (levels_of k)) (fits urgent k c l fine) i)
           ∙ sym (ap (λ f. f i) (base_kept c plain (book_of k).base))
 
 -- ---- what an accepted call found
@@ -262,38 +261,33 @@ module _ {U : Type 0} (urgent : U → U → Bool) (k : State U) where
   within (Unlock t s) l fine = tt
   within (Release t) l fine = tt
 
-  pub noted_size : (c : Call U) (rows : List (Row U)) → Noted k.rows c rows → length rows ≡ length k.rows
-  noted_size (Task t v) rows e = ap length e ∙ length-set k.rows t _
-  noted_size (Untask t) rows e = ap length e
-  noted_size (Base t v) rows e = ap length (e (record { base = v; level = v })) ∙ length-set k.rows t _
-  noted_size (Sem s) rows e = ap length e
-  noted_size (Unsem s) rows e = ap length e
-  noted_size (Lock t s) rows e = ap length e
-  noted_size (Try t s) rows e = ap length e
-  noted_size (Unlock t s) rows e = ap length e
-  noted_size (Release t) rows e = ap length e
-
-  -- accepted by its rule: rows is what the rows hold once a base is written
-  module _ (rows : List (Row U)) (r : Bool × ℕ × ℕ) (k' : State U) (l : 64 ≤ length k.rows) where
-    abbrev Taken : Call U → Type 0
-    Taken c =
-        refusal (first urgent (levels_of k)) k.waits (asked c) ≡ None → Noted k.rows c rows
-        → Accepted urgent (record { waits = k.waits; rows = rows }) (waits_after (first urgent (levels_of k)) k.waits (asked c)) (left_waiting (waits_after (first urgent (levels_of k)) k.waits (asked c)) c) r k'
+  module _ (r : Bool × ℕ × ℕ) (k' : State U) (l : 64 ≤ length k.rows) where
+    taken : (c : Call U) → refusal (first urgent (levels_of k)) k.waits (asked c) ≡ None
+        → Accepted urgent (record { waits = k.waits; rows = noted k.rows c }) (waits_after (first urgent (levels_of k)) k.waits (asked c)) (left_waiting (waits_after (first urgent (levels_of k)) k.waits (asked c)) c) r k'
         → Made urgent k c (Ok r) k'
+    taken (Task t v) fine a = let found = task_found k.waits (length k.rows) t v (fits urgent k (Task t v) l fine) in made_task urgent k t r k' l v fine found.0 found.1 a
+    taken (Untask t) fine a = made_untask urgent k t r k' l fine a
+    taken (Base t v) fine a = let found = base_found k.waits (length k.rows) t v (fits urgent k (Base t v) l fine) in made_base urgent k t r k' l v fine found.0 found.1 a
+    taken (Sem s) fine a = made_plain urgent k (Sem s) refl r k' l fine a
+    taken (Unsem s) fine a = made_plain urgent k (Unsem s) refl r k' l fine a
+    taken (Lock t s) fine a = made_plain urgent k (Lock t s) refl r k' l fine a
+    taken (Try t s) fine a = made_plain urgent k (Try t s) refl r k' l fine a
+    taken (Unlock t s) fine a = made_plain urgent k (Unlock t s) refl r k' l fine a
+    taken (Release t) fine a = made_plain urgent k (Release t) refl r k' l fine a
 
-    -- where nothing was written, the rows are the kernel's
-    unwritten : rows ≡ k.rows → {x : Waits} {y : Bool} → Accepted urgent (record { waits = k.waits; rows = rows }) x y r k' → Accepted urgent k x y r k'
-    unwritten e {x} {y} a = subst (λ rows. Accepted urgent (record { waits = k.waits; rows = rows }) x y r k') e a
+    -- accepted by its rule: x is what its step leaves, rows what the rows hold once its base is written
+    pub made : (c : Call U) (x : Waits) (waiting : Bool) (rows : List (Row U)) → (refusal (first urgent (levels_of k)) k.waits (asked c) ≡ None) × (x ≡ waits_after (first urgent (levels_of k)) k.waits (asked c))
+        → waiting ≡ left_waiting x c → rows ≡ noted k.rows c → Accepted urgent (record { waits = k.waits; rows = rows }) x waiting r k' → Made urgent k c (Ok r) k'
+    made c x waiting rows (fine, leaves) still written a =
+        taken c fine
+        (subst (λ x. Accepted urgent (record { waits = k.waits; rows = noted k.rows c }) x (left_waiting x c) r k') leaves
+        (subst (λ y. Accepted urgent (record { waits = k.waits; rows = noted k.rows c }) x y r k') still
+        (subst (λ rows. Accepted urgent (record { waits = k.waits; rows = rows }) x waiting r k') written a)))
 
-    pub made : (c : Call U) → Taken c
-    made (Task t v) fine e a =
-        let found = task_found k.waits (length k.rows) t v (fits urgent k (Task t v) l fine) in
-        made_task urgent k t r k' l v fine found.0 found.1 (subst (λ rows. Accepted urgent (record { waits = k.waits; rows = rows }) (with_task k.waits t (Some Ready)) false r k') e a)
-    made (Untask t) fine e a = made_untask urgent k t r k' l fine (subst (λ rows. Accepted urgent (record { waits = k.waits; rows = rows }) (with_task k.waits t None) false r k') e a)
-    made (Base t v) fine e a = let found = base_found k.waits (length k.rows) t v (fits urgent k (Base t v) l fine) in made_base urgent k t r k' l v rows e fine found.0 found.1 a
-    made (Sem s) fine e a = made_plain urgent k (Sem s) refl r k' l fine (unwritten e a)
-    made (Unsem s) fine e a = made_plain urgent k (Unsem s) refl r k' l fine (unwritten e a)
-    made (Lock t s) fine e a = made_plain urgent k (Lock t s) refl r k' l fine (unwritten e a)
-    made (Try t s) fine e a = made_plain urgent k (Try t s) refl r k' l fine (unwritten e a)
-    made (Unlock t s) fine e a = made_plain urgent k (Unlock t s) refl r k' l fine (unwritten e a)
-    made (Release t) fine e a = made_plain urgent k (Release t) refl r k' l fine (unwritten e a)
+-- where the levels before are right, the step that is made is the book's
+pub makes_call : {U : Type 0} {order : Ghosts U} {k k' : Kernel U order} {c : Call U} {r : Reply} → Made order.urgent (state_of k) c r (state_of k') → k'.rows.ghost_name ≡ k.rows.ghost_name → MakesCall order.urgent k c r k'
+makes_call {order = order} {k = k} {c = c} m named = record {
+  made = m;
+  stepped = m.stepped ∙ step_same order.urgent (levels_of (state_of k)) (level order.urgent (book_of (state_of k))) (book_of (state_of k)) k.right (length k.rows.now) c;
+  named = named;
+}

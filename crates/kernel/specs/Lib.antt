@@ -1,2 +1,4 @@
+pub mod Answers
 pub mod Held
 pub mod Inner
+pub mod Right
