@@ -9,13 +9,13 @@ mod tests {
     use std::test::Fail;
     use tasksets::TaskSet;
     use urgency::{Deadline, Grade, Urgency};
-    use waits::{Holder, Wait};
+    use waits::Wait;
 
     // A reply, with a refusal as its number.
     type Plain = Result<(bool, TaskSet, TaskSet), u32>;
 
-    // A call with the value of its grade, its reply, and who runs after it.
-    type Case = (Call<u32>, Plain, Option<u32>);
+    // A call with the plain value of its urgency, its reply, and who runs after it.
+    type Case<V = u32> = (Call<V>, Plain, Option<u32>);
 
     // The reply to a call that wakes nobody and changes no level.
     const DONE: Plain = Ok((false, 0, 0));
@@ -88,14 +88,13 @@ mod tests {
         (Call::Untask(0), DONE, None),
     ];
 
-    // A call with the plain value of its urgency, its reply, and who runs after it. Sets are written in binary: task 0 has the last digit.
-    type CaseOf<V> = (Call<V>, Plain, Option<u32>);
+    // In the tables below sets are written in binary: task 0 has the last digit.
 
     // The reply where the caller is left waiting, nobody is woken and no level changes.
     const WAITS: Plain = Ok((true, 0, 0));
 
     // With 63 rows every call on a semaphore is refused too.
-    static FEW_ROWS_OF_SEMAPHORES: [CaseOf<u32>; 8] = [
+    static FEW_ROWS_OF_SEMAPHORES: [Case; 8] = [
         (Call::Sem(0), Err(3), None),
         (Call::Sem(64), Err(3), None),
         (Call::Unsem(0), Err(3), None),
@@ -107,7 +106,7 @@ mod tests {
     ];
 
     // Levels rise, fall and rise again while tasks 0 and 63 are absent.
-    static ROWS_OF_WAITS: [CaseOf<u32>; 14] = [
+    static ROWS_OF_WAITS: [Case; 14] = [
         (Call::Task(0, 3), DONE, Some(0)),
         (Call::Task(63, 4), DONE, Some(0)),
         (Call::Base(0, 5), Ok((false, 0, 0b1)), Some(63)),
@@ -125,7 +124,7 @@ mod tests {
     ];
 
     // Tasks 0, 1 and 2, and three semaphores, all free.
-    static THREE: [CaseOf<u32>; 6] = [
+    static THREE: [Case; 6] = [
         (Call::Task(0, 10), DONE, Some(0)),
         (Call::Task(1, 20), DONE, Some(0)),
         (Call::Task(2, 30), DONE, Some(0)),
@@ -137,7 +136,7 @@ mod tests {
     // The tables up to `LENT` are parts of stories, and constants, since a static cannot refer to a static.
 
     // Task 2 holds 0 and 1; task 0 waits at 0 and task 1 at 1.
-    const TWO_HELD: [CaseOf<u32>; 4] = [
+    const TWO_HELD: [Case; 4] = [
         (Call::Lock(2, 0), DONE, Some(0)),
         (Call::Try(2, 1), DONE, Some(0)),
         (Call::Lock(1, 1), Ok((true, 0, 0b100)), Some(0)),
@@ -145,14 +144,14 @@ mod tests {
     ];
 
     // Tasks 0 and 1 wait at what task 2 holds.
-    const ONE_HELD: [CaseOf<u32>; 3] = [
+    const ONE_HELD: [Case; 3] = [
         (Call::Lock(2, 0), DONE, Some(0)),
         (Call::Lock(1, 0), Ok((true, 0, 0b100)), Some(0)),
         (Call::Lock(0, 0), Ok((true, 0, 0b100)), Some(2)),
     ];
 
     // Both are ready without the semaphore. Task 2 can end, since it holds nothing more, and one made anew is free.
-    const ENDED: [CaseOf<u32>; 5] = [
+    const ENDED: [Case; 5] = [
         (Call::Unsem(0), Ok((false, 0b11, 0b100)), Some(0)),
         (Call::Unlock(2, 0), Err(11), Some(0)),
         (Call::Untask(2), DONE, Some(0)),
@@ -161,7 +160,7 @@ mod tests {
     ];
 
     // Task 0 waits for 1, and 1 for 2. Task 3 comes meanwhile: it is more urgent than 2 by its base, and does not run.
-    const CHAIN: [CaseOf<u32>; 5] = [
+    const CHAIN: [Case; 5] = [
         (Call::Lock(2, 0), DONE, Some(0)),
         (Call::Lock(1, 1), DONE, Some(0)),
         (Call::Lock(1, 0), Ok((true, 0, 0b100)), Some(0)),
@@ -170,7 +169,7 @@ mod tests {
     ];
 
     // Rings of two, three and four tasks are refused, chains as long are not, and `try` meets no ring. A lock that would close one is accepted once the chain is cut.
-    const RINGS: [CaseOf<u32>; 19] = [
+    const RINGS: [Case; 19] = [
         (Call::Lock(0, 0), DONE, Some(0)),
         (Call::Lock(1, 1), DONE, Some(0)),
         (Call::Lock(2, 2), DONE, Some(0)),
@@ -193,7 +192,7 @@ mod tests {
     ];
 
     // Tasks 3, 5 and 4 come to wait one after another, and 4 is first: more urgent than 3, and smaller than 5.
-    const QUEUE: [CaseOf<u32>; 12] = [
+    const QUEUE: [Case; 12] = [
         (Call::Lock(2, 0), DONE, Some(0)),
         (Call::Task(3, 25), DONE, Some(0)),
         (Call::Task(4, 20), DONE, Some(0)),
@@ -209,7 +208,7 @@ mod tests {
     ];
 
     // Tasks 1 and 3 wait for 2, and task 0 for 3: by its level 3 is before 1, by its base behind.
-    const LENT: [CaseOf<u32>; 6] = [
+    const LENT: [Case; 6] = [
         (Call::Lock(2, 0), DONE, Some(0)),
         (Call::Task(3, 25), DONE, Some(0)),
         (Call::Lock(3, 1), DONE, Some(0)),
@@ -219,7 +218,7 @@ mod tests {
     ];
 
     // Tasks 2, 1 and 0 come to wait for 3 one after another, and its level rises each time.
-    static DUE: [CaseOf<(u32, u32)>; 9] = [
+    static DUE: [Case<(u32, u32)>; 9] = [
         (Call::Task(0, (499, 0)), DONE, Some(0)),
         (Call::Task(1, (500, 2)), DONE, Some(0)),
         (Call::Task(2, (500, 1)), DONE, Some(0)),
@@ -232,14 +231,14 @@ mod tests {
     ];
 
     // The semaphore goes to 0, then 1, then 2.
-    static HANDED_ON: [CaseOf<(u32, u32)>; 3] = [
+    static HANDED_ON: [Case<(u32, u32)>; 3] = [
         (Call::Unlock(3, 0), Ok((false, 0b1, 0b1000)), Some(0)),
         (Call::Unlock(0, 0), Ok((false, 0b10, 0)), Some(0)),
         (Call::Unlock(1, 0), Ok((false, 0b100, 0)), Some(0)),
     ];
 
     // Each task holds the semaphore of its number; 0 waits for 1, and 2 for 0. Semaphore 3 is free.
-    static ALL_HELD: [CaseOf<u32>; 6] = [
+    static ALL_HELD: [Case; 6] = [
         (Call::Sem(3), DONE, Some(0)),
         (Call::Lock(0, 0), DONE, Some(0)),
         (Call::Lock(1, 1), DONE, Some(0)),
@@ -249,7 +248,7 @@ mod tests {
     ];
 
     // Where more than one applies the first is given: task 0, which waits, holds 0, does not hold 1, and would close a ring at 2.
-    static SEMAPHORE_REFUSALS: [CaseOf<u32>; 44] = [
+    static SEMAPHORE_REFUSALS: [Case; 44] = [
         (Call::Sem(64), Err(10), Some(1)),
         (Call::Sem(4294967295), Err(10), Some(1)),
         (Call::Sem(0), Err(12), Some(1)),
@@ -324,8 +323,8 @@ mod tests {
     // What it shows; calls on a kernel with three tasks and three semaphores, and further calls; the rows that are written in the end, by number, with base and level.
     type Story = (
         &'static str,
-        &'static [CaseOf<u32>],
-        &'static [CaseOf<u32>],
+        &'static [Case],
+        &'static [Case],
         &'static [(usize, u32, u32)],
     );
 
@@ -433,17 +432,11 @@ mod tests {
     ];
 
     fn grade(value: u32) -> Result<Grade, Fail> {
-        match Grade::new(value) {
-            Some(grade) => Ok(grade),
-            None => Err(Fail::new("no grade")),
-        }
+        Grade::new(value).ok_or_else(|| Fail::new("no grade"))
     }
 
     fn deadline(tick: u32, class: u32) -> Result<Deadline, Fail> {
-        match Deadline::new(tick, class) {
-            Some(deadline) => Ok(deadline),
-            None => Err(Fail::new("no deadline")),
-        }
+        Deadline::new(tick, class).ok_or_else(|| Fail::new("no deadline"))
     }
 
     // An urgency that a table writes as a plain value.
@@ -494,43 +487,27 @@ mod tests {
         Ok([Row { base, level }; N])
     }
 
+    // Rows that hold the least urgent deadline.
+    fn least_rows() -> Result<[Row<Deadline>; 64], Fail> {
+        let least = deadline(4294967295, 0)?;
+        Ok([Row {
+            base: least,
+            level: least,
+        }; 64])
+    }
+
     // An answer, with a refusal as its number.
     fn plain<T: Copy>(answer: Result<T, Refusal>) -> Result<T, u32> {
-        match answer {
-            Ok(x) => Ok(x),
-            Err(refusal) => Err(refusal.number()),
-        }
+        answer.map_err(|refusal| refusal.number())
     }
 
     fn value<V, U: Written<V>>(answer: Result<U, Refusal>) -> Result<V, u32> {
-        match answer {
-            Ok(urgency) => Ok(urgency.written()),
-            Err(refusal) => Err(refusal.number()),
-        }
-    }
-
-    // A holder is a task, or none.
-    fn holder(answer: Result<Holder, Refusal>) -> Result<Option<u32>, u32> {
-        match answer {
-            Ok(Holder::Free) => Ok(None),
-            Ok(Holder::HeldBy(t)) => Ok(Some(t)),
-            Err(refusal) => Err(refusal.number()),
-        }
+        plain(answer).map(|urgency| urgency.written())
     }
 
     // The number of a refusal, if it is one.
     fn refused<T: Copy>(answer: Result<T, Refusal>) -> Option<u32> {
-        match answer {
-            Ok(_) => None,
-            Err(refusal) => Some(refusal.number()),
-        }
-    }
-
-    // Opens a kernel, in which none runs, and makes the call of each case.
-    fn make_each(rt: &impl Abort, rows: &mut [Row<Grade>], cases: &[Case]) -> Result<(), Fail> {
-        let mut kernel = Kernel::open(rows);
-        assert_eq!(rt; kernel.running(), None);
-        make_all(rt, "case", &mut kernel, cases)
+        plain(answer).err()
     }
 
     // Makes the call of each case.
@@ -538,7 +515,7 @@ mod tests {
         rt: &impl Abort,
         name: &str,
         kernel: &mut Kernel<'_, U>,
-        cases: &[CaseOf<V>],
+        cases: &[Case<V>],
     ) -> Result<(), Fail> {
         for (i, (call, reply, running)) in cases.iter().enumerate() {
             assert_eq!(rt; plain(kernel.make(read(*call)?)), *reply, "{name}, {i}");
@@ -547,15 +524,26 @@ mod tests {
         Ok(())
     }
 
+    // Opens a kernel, in which none runs, and makes the call of each case of the tables.
+    fn make_each<V: Copy, U: Written<V>>(
+        rt: &impl Abort,
+        name: &str,
+        rows: &mut [Row<U>],
+        tables: &[&[Case<V>]],
+    ) -> Result<(), Fail> {
+        let mut kernel = Kernel::open(rows);
+        assert_eq!(rt; kernel.running(), None);
+        for cases in tables {
+            make_all(rt, name, &mut kernel, cases)?;
+        }
+        Ok(())
+    }
+
     // Each row holds base 7 and level 9, but those that are listed: by number, with what they hold.
     fn each_holds(rt: &impl Abort, name: &str, rows: &[Row<Grade>], written: &[(usize, u32, u32)]) {
         for (i, row) in rows.iter().enumerate() {
-            let mut held = (7, 9);
-            for (number, base, level) in written {
-                if *number == i {
-                    held = (*base, *level);
-                }
-            }
+            let listed = written.iter().find(|(number, _, _)| *number == i);
+            let held = listed.map_or((7, 9), |(_, base, level)| (*base, *level));
             assert_eq!(rt; (row.base.value(), row.level.value()), held, "{name}, {i}");
         }
     }
@@ -563,7 +551,7 @@ mod tests {
     // Asks the three questions of each semaphore.
     fn ask_each(rt: &impl Abort, kernel: &Kernel<'_, Grade>, asked: &[Asked]) {
         for (s, held_by, waiters, count) in asked {
-            assert_eq!(rt; holder(kernel.holder_of(*s)), *held_by, "{s}");
+            assert_eq!(rt; plain(kernel.holder_of(*s)), *held_by, "{s}");
             assert_eq!(rt; plain(kernel.waiters_at(*s)), *waiters, "{s}");
             assert_eq!(rt; plain(kernel.count_at(*s)), *count, "{s}");
         }
@@ -573,16 +561,12 @@ mod tests {
     fn story(
         rt: &impl Abort,
         name: &str,
-        start: &[CaseOf<u32>],
-        end: &[CaseOf<u32>],
+        start: &[Case],
+        end: &[Case],
         written: &[(usize, u32, u32)],
     ) -> Result<(), Fail> {
         let mut rows = rows::<66>()?;
-        let mut kernel = Kernel::open(&mut rows);
-        assert_eq!(rt; kernel.running(), None);
-        make_all(rt, name, &mut kernel, &THREE)?;
-        make_all(rt, name, &mut kernel, start)?;
-        make_all(rt, name, &mut kernel, end)?;
+        make_each(rt, name, &mut rows, &[&THREE, start, end])?;
         each_holds(rt, name, &rows, written);
         Ok(())
     }
@@ -593,7 +577,7 @@ mod tests {
         assert_eq!(rt; refused(check_rows(&enough)), None);
         let mut few = rows::<63>()?;
         assert_eq!(rt; refused(check_rows(&few)), Some(3));
-        make_each(&rt, &mut few, &FEW_ROWS)?;
+        make_each(&rt, "case", &mut few, &[&FEW_ROWS])?;
         each_holds(&rt, "row", &few, &[]);
         Ok(())
     }
@@ -601,7 +585,7 @@ mod tests {
     #[test]
     fn refusals(rt: HostRuntime) -> Result<(), Fail> {
         let mut rows = rows::<64>()?;
-        make_each(&rt, &mut rows, &REFUSALS)?;
+        make_each(&rt, "case", &mut rows, &[&REFUSALS])?;
         each_holds(&rt, "row", &rows, &[(63, 5, 5)]);
         Ok(())
     }
@@ -618,23 +602,19 @@ mod tests {
             assert_eq!(rt; value(kernel.level_of(t)), answer);
             assert_eq!(rt; refused(kernel.state_of(t)), answer.err());
         }
-        assert!(rt; matches!(kernel.state_of(63), Ok(Wait::Ready)));
+        assert_eq!(rt; kernel.state_of(63), Ok(Wait::Ready));
         Ok(())
     }
 
     #[test]
     fn grades(rt: HostRuntime) -> Result<(), Fail> {
         let mut rows = rows::<64>()?;
-        make_each(&rt, &mut rows, &GRADES)
+        make_each(&rt, "case", &mut rows, &[&GRADES])
     }
 
     #[test]
     fn deadlines(rt: HostRuntime) -> Result<(), Fail> {
-        let least = deadline(4294967295, 0)?;
-        let mut rows = [Row {
-            base: least,
-            level: least,
-        }; 64];
+        let mut rows = least_rows()?;
         let mut kernel = Kernel::open(&mut rows);
         for (t, tick, class, running) in DEADLINES {
             assert_eq!(rt; plain(kernel.task(t, deadline(tick, class)?)), DONE);
@@ -652,7 +632,7 @@ mod tests {
     #[test]
     fn rows_that_stay(rt: HostRuntime) -> Result<(), Fail> {
         let mut rows = rows::<66>()?;
-        make_each(&rt, &mut rows, &ROWS)?;
+        make_each(&rt, "case", &mut rows, &[&ROWS])?;
         each_holds(&rt, "row", &rows, &[(0, 5, 5), (63, 4, 4)]);
         Ok(())
     }
@@ -660,8 +640,7 @@ mod tests {
     #[test]
     fn few_rows_of_semaphores(rt: HostRuntime) -> Result<(), Fail> {
         let mut few = rows::<63>()?;
-        let mut kernel = Kernel::open(&mut few);
-        make_all(&rt, "case", &mut kernel, &FEW_ROWS_OF_SEMAPHORES)?;
+        make_each(&rt, "case", &mut few, &[&FEW_ROWS_OF_SEMAPHORES])?;
         each_holds(&rt, "row", &few, &[]);
         Ok(())
     }
@@ -690,13 +669,13 @@ mod tests {
         assert_eq!(rt; value(kernel.base_of(2)), Ok(30));
         assert_eq!(rt; value(kernel.level_of(2)), Ok(10));
         assert_eq!(rt; value(kernel.level_of(1)), Ok(20));
-        assert!(rt; matches!(kernel.state_of(1), Ok(Wait::AtSemaphore(0))));
+        assert_eq!(rt; kernel.state_of(1), Ok(Wait::AtSemaphore(0)));
         assert_eq!(rt; plain(kernel.unlock(2, 0)), Ok((false, 0b1, 0b100)));
         ask_each(&rt, &kernel, &[(0, Ok(Some(0)), Ok(0b10), Ok(1))]);
-        assert!(rt; matches!(kernel.state_of(0), Ok(Wait::Ready)));
+        assert_eq!(rt; kernel.state_of(0), Ok(Wait::Ready));
         assert_eq!(rt; plain(kernel.unsem(0)), Ok((false, 0b10, 0)));
         ask_each(&rt, &kernel, &[(0, Err(11), Err(11), Err(11))]);
-        assert!(rt; matches!(kernel.state_of(1), Ok(Wait::Ready)));
+        assert_eq!(rt; kernel.state_of(1), Ok(Wait::Ready));
         assert_eq!(rt; plain(kernel.sem(0)), DONE);
         assert_eq!(rt; plain(kernel.try_lock(2, 0)), DONE);
         assert_eq!(rt; plain(kernel.lock(1, 0)), Ok((true, 0, 0b100)));
@@ -707,11 +686,7 @@ mod tests {
 
     #[test]
     fn deadlines_of_waits(rt: HostRuntime) -> Result<(), Fail> {
-        let least = deadline(4294967295, 0)?;
-        let mut rows = [Row {
-            base: least,
-            level: least,
-        }; 64];
+        let mut rows = least_rows()?;
         let mut kernel = Kernel::open(&mut rows);
         make_all(&rt, "case", &mut kernel, &DUE)?;
         assert_eq!(rt; value(kernel.level_of(3)), Ok((499, 0)));
@@ -724,8 +699,7 @@ mod tests {
     #[test]
     fn rows_that_stay_in_waits(rt: HostRuntime) -> Result<(), Fail> {
         let mut rows = rows::<66>()?;
-        let mut kernel = Kernel::open(&mut rows);
-        make_all(&rt, "case", &mut kernel, &ROWS_OF_WAITS)?;
+        make_each(&rt, "case", &mut rows, &[&ROWS_OF_WAITS])?;
         each_holds(
             &rt,
             "row",

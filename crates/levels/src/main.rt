@@ -7,10 +7,10 @@ ghost use Rattle.book.specs.Kernel.{calls};
 ghost use Rattle.levels.specs.Values.{in_values, row_in_values};
 ghost use Rattle.levels.specs.Day.{day_calls, name_of};
 
-use book::{Call, LogEntry, Reply, Row};
+use book::{Call, LogEntry, Row};
 use kernel::run;
 use std::{fmt, io};
-use tasksets::{TaskSet, contains};
+use tasksets::{TaskSet, members};
 use urgency::Grade;
 
 const DOOR_SENSOR: u32 = 0;
@@ -113,55 +113,37 @@ struct Members(TaskSet);
 impl fmt::Display for Members {
     fn fmt<W: fmt::Write>(&self, f: &mut fmt::Formatter<W>) -> fmt::Result {
         write!(f, "(")?;
-        let mut first = true;
-        for t in 0..64u32 {
-            if contains(self.0, t) {
-                if !first {
-                    write!(f, " ")?;
-                }
-                write!(f, "{t}")?;
-                first = false;
-            }
+        let mut rest = members(self.0);
+        if let Some(t) = rest.next() {
+            write!(f, "{t}")?;
+        }
+        for t in rest {
+            write!(f, " {t}")?;
         }
         write!(f, ")")
     }
 }
 
-/// What came of a call.
+/// A call, what came of it, and who runs after it.
 #[derive(Drop)]
-struct Answer(Reply);
+struct Line(LogEntry<Grade>);
 
-impl fmt::Display for Answer {
+impl fmt::Display for Line {
     fn fmt<W: fmt::Write>(&self, f: &mut fmt::Formatter<W>) -> fmt::Result {
-        match self.0 {
+        write!(f, "{}: ", Called(self.0.call))?;
+        match self.0.reply {
             Ok((_, woken, changed)) => {
                 let woken = Members(woken);
                 let changed = Members(changed);
-                write!(f, "ok, woken {woken}, changed {changed}")
+                write!(f, "ok, woken {woken}, changed {changed}")?
             }
-            Err(refusal) => write!(f, "refused, {}", refusal.number()),
+            Err(refusal) => write!(f, "refused, {}", refusal.number())?,
+        }
+        match self.0.running {
+            Some(t) => write!(f, "; {t} runs, the {}", name(t)),
+            None => write!(f, "; none runs"),
         }
     }
-}
-
-/// Who runs.
-#[derive(Drop)]
-struct Runner(Option<u32>);
-
-impl fmt::Display for Runner {
-    fn fmt<W: fmt::Write>(&self, f: &mut fmt::Formatter<W>) -> fmt::Result {
-        match self.0 {
-            Some(t) => write!(f, "{t} runs, the {}", name(t)),
-            None => write!(f, "none runs"),
-        }
-    }
-}
-
-fn print_entry(rt: &impl Print, entry: LogEntry<Grade>) -> io::Result<()> {
-    let call = Called(entry.call);
-    let answer = Answer(entry.reply);
-    let runner = Runner(entry.running);
-    println!(rt; "{call}: {answer}; {runner}")
 }
 
 fn main(rt: HostRuntime) -> io::Result<()> {
@@ -169,7 +151,7 @@ fn main(rt: HostRuntime) -> io::Result<()> {
     let mut log = day().unwrap();
     let _kernel = run(&mut rows, &mut log);
     for entry in log {
-        print_entry(&rt, entry)?;
+        println!(&rt; "{}", Line(entry))?;
     }
     Ok(())
 }
