@@ -25,7 +25,7 @@ use Rattle.book.proofs.Clear.{Clear, clear, clear_parts, all_below, all_there, a
 use Rattle.book.proofs.Standing.{picked_present}
 
 -- ---- what each condition says where it does not hold
-absent : {A : Type 0} (o : Option A) → (T (is_some o) → ⊥) → o ≡ None
+pub absent : {A : Type 0} (o : Option A) → (T (is_some o) → ⊥) → o ≡ None
 absent None n = refl
 absent (Some x) n = absurd (n tt)
 

@@ -23,6 +23,7 @@ use Rattle.book.specs.Runs.{Reply, earliest, woken, changed, left_waiting, all_r
 use Rattle.book.specs.Kernel.{State, book_of, levels_of, Made}
 use Rattle.book.proofs.Agreeing.{step_same}
 use Rattle.book.proofs.Clear.{Clear, clear, clear_parts, all_below, all_there, all_absent}
+use Rattle.book.proofs.Facts.{absent}
 use Rattle.book.proofs.Firsts.{first_has}
 use Rattle.book.proofs.Standing.{alters_base, standing, base_kept}
 use Rattle.steps.specs.Judged.{refusal}
@@ -238,10 +239,6 @@ module _ {U : Type 0} (w : Waits) (n t : ℕ) (v : U) where
   task_found : Clear (refusals w n (Task t v)) → (t < 64) × (w.tasks t ≡ None)
   unfolding refusals
   task_found (_, (small, (_, (missing, _)))) = ((all_below (task t ∷ []) small).0, absent (w.tasks t) (all_absent w (task t ∷ []) missing).0)
-    where
-      absent : (o : Option Wait) → (T (is_some o) → ⊥) → o ≡ None
-      absent None n = refl
-      absent (Some d) n = absurd (n tt)
 
   base_found : Clear (refusals w n (Base t v)) → (t < 64) × Present w t
   unfolding refusals

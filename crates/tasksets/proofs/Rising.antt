@@ -1,6 +1,7 @@
 -- The laws of the list of a set's members: it is taken from the front, and a fold over it is a loop over the numbers below 64.
 use Rattle.std.proofs.Common.{◌≡◌, ℕ, zero, suc, ◌+◌, ◌<◌, ◌≤◌, Bool, true, false, cond, not, ◌&&◌, eqb, List, [], ◌∷◌, filter, fold, length, subst, sym, refl, ap, ◌∙◌, add-zero, add-one, arith}
 use native.Mathlib.Decide.{ℕ_discrete}
+use Rattle.std.proofs.Math.Bool.{and-true}
 use Rattle.std.proofs.lemmas.Bool.{eq-eqb, ne_eqb}
 use Rattle.std.proofs.lemmas.Fn.{fold_over}
 use Rattle.std.proofs.lemmas.Iterator.Consumers.{YieldsList-from_shown}
@@ -14,33 +15,25 @@ use Rattle.tasksets.specs.declared.Iter.{Iter}
 use Rattle.tasksets.specs.Sets.{has, Smallest, Takes, members}
 use Rattle.tasksets.proofs.Bits.{past_has}
 
--- a test that fails of all numbers from a on keeps none
-keeps_none : (p : ℕ → Bool) (n a : ℕ) → ((j : ℕ) → a ≤ j → p j ≡ false) → filter p (range_with_len a n) ≡ []
-keeps_none p zero a no' = refl
-keeps_none p (suc n) a no' =
-    ap (λ x. cond x (a ∷ filter p (range_with_len (a + 1) n)) (filter p (range_with_len (a + 1) n))) (no' a (omega arith))
-    ∙ keeps_none p n (a + 1) (λ j l. no' j (omega arith))
-
-keeps_same : (p q : ℕ → Bool) (n a : ℕ) → ((j : ℕ) → a ≤ j → p j ≡ q j) → filter p (range_with_len a n) ≡ filter q (range_with_len a n)
-keeps_same p q zero a same = refl
-keeps_same p q (suc n) a same =
-    ap (λ x. cond x (a ∷ filter p (range_with_len (a + 1) n)) (filter p (range_with_len (a + 1) n))) (same a (omega arith))
-    ∙ ap (λ xs. cond (q a) (a ∷ xs) xs) (keeps_same p q n (a + 1) (λ j l. same j (omega arith)))
-
 -- one step of a filter over the numbers from a on
 step : (p : ℕ → Bool) (n a : ℕ) (x : Bool) → p a ≡ x → filter p (range_with_len a (suc n)) ≡ cond x (a ∷ filter p (range_with_len (a + 1) n)) (filter p (range_with_len (a + 1) n))
 step p n a x e = ap (λ x. cond x (a ∷ filter p (range_with_len (a + 1) n)) (filter p (range_with_len (a + 1) n))) e
+
+-- a test that fails of all numbers from a on keeps none
+keeps_none : (p : ℕ → Bool) (n a : ℕ) → ((j : ℕ) → a ≤ j → p j ≡ false) → filter p (range_with_len a n) ≡ []
+keeps_none p zero a no' = refl
+keeps_none p (suc n) a no' = step p n a false (no' a (omega arith)) ∙ keeps_none p n (a + 1) (λ j l. no' j (omega arith))
+
+keeps_same : (p q : ℕ → Bool) (n a : ℕ) → ((j : ℕ) → a ≤ j → p j ≡ q j) → filter p (range_with_len a n) ≡ filter q (range_with_len a n)
+keeps_same p q zero a same = refl
+keeps_same p q (suc n) a same = step p n a (q a) (same a (omega arith)) ∙ ap (λ xs. cond (q a) (a ∷ xs) xs) (keeps_same p q n (a + 1) (λ j l. same j (omega arith)))
 
 module _ (p q : ℕ → Bool) (k : ℕ) (here : p k ≡ true) (before : (j : ℕ) → j < k → p j ≡ false) (fewer : (j : ℕ) → q j ≡ (p j && not (eqb j k))) where
   gone : q k ≡ false
   gone = fewer k ∙ ap (λ x. x && not (eqb k k)) here ∙ ap not (eq-eqb k k refl)
 
   stays : (j : ℕ) → k < j → p j ≡ q j
-  stays j l = sym (fewer j ∙ ap (λ x. p j && not x) (ne_eqb j k (λ e. omega arith)) ∙ and_true (p j))
-    where
-      and_true : (x : Bool) → (x && true) ≡ x
-      and_true true = refl
-      and_true false = refl
+  stays j l = sym (fewer j ∙ ap (λ x. p j && not x) (ne_eqb j k (λ e. omega arith)) ∙ and-true (p j))
 
   -- the first that passes is at the front, and the others come after it
   front : (n a : ℕ) → a ≤ k → k < a + n → filter p (range_with_len a n) ≡ k ∷ filter q (range_with_len a n)
@@ -69,19 +62,18 @@ members_first s t k least l fewer =
 -- a fold over the members is a loop over the numbers below 64 that passes over all others
 pub members_fold : {A : Type 0} (f : A → ℕ → A) (loop : ℕ → A) (m : ℕ) → ((n : ℕ) → loop (suc n) ≡ cond (has m n) (f (loop n) n) (loop n)) → fold f (loop 0) (members m) ≡ loop 64
 unfolding members
-members_fold f loop m turn = go 64 0
+members_fold {A = A} f loop m turn = go 64 0
   where
     go : (n a : ℕ) → fold f (loop a) (filter (has m) (range_with_len a n)) ≡ loop (a + n)
     go zero a = ap loop (sym (add-zero a))
-    go (suc n) a = turned (has m a) refl ∙ go n (a + 1) ∙ ap loop (omega arith)
+    go (suc n) a =
+        let rest = filter (has m) (range_with_len (a + 1) n) in
+        taken (has m a) a (loop a) rest ∙ ap (λ u. fold f u rest) (sym (ap loop (add-one a) ∙ turn a)) ∙ go n (a + 1) ∙ ap loop (omega arith)
       where
-        turned : (x : Bool) → has m a ≡ x → fold f (loop a) (filter (has m) (range_with_len a (suc n))) ≡ fold f (loop (a + 1)) (filter (has m) (range_with_len (a + 1) n))
-        turned true e =
-            ap (fold f (loop a)) (step (has m) n a true e)
-            ∙ ap (λ u. fold f u (filter (has m) (range_with_len (a + 1) n))) (sym (ap loop (add-one a) ∙ turn a ∙ ap (λ x. cond x (f (loop a) a) (loop a)) e))
-        turned false e =
-            ap (fold f (loop a)) (step (has m) n a false e)
-            ∙ ap (λ u. fold f u (filter (has m) (range_with_len (a + 1) n))) (sym (ap loop (add-one a) ∙ turn a ∙ ap (λ x. cond x (f (loop a) a) (loop a)) e))
+        -- a number that is let through is one step
+        taken : (x : Bool) (a : ℕ) (u : A) (xs : List ℕ) → fold f u (cond x (a ∷ xs) xs) ≡ fold f (cond x (f u a) u) xs
+        taken true a u xs = refl
+        taken false a u xs = refl
 
 -- so is a `fold` of the iterator, by a closure that takes this step
 pub fold_is_loop :

@@ -3,6 +3,7 @@ use Rattle.std.proofs.Common.{◌≡◌, ℕ, zero, suc, ◌+◌, ◌/◌, ◌%�
 use native.Mathlib.Decide.{ℕ_discrete}
 use lib.Bits.{bit_and, bit_or, and_le_r, or_lt}
 use lib.Pow.{pow-lt}
+use Rattle.std.proofs.Math.Bool.{or-true, or-false}
 use Rattle.std.proofs.lemmas.Bool.{eq-eqb, ne_eqb}
 use lib.Count.{ones, ones_step, count_trailing_zeros}
 use Rattle.tasksets.specs.Sets.{bit, Has, has, none, those, those_below, members_below}
@@ -174,14 +175,10 @@ module _ (m k r : ℕ) (m< : m < 2 ^ 64) (r< : r < 2 ^ 64) (members : (j : ℕ) 
       bit_test r j ∙ ap as_bit (members j h ∙ sym (or_has m (2 ^ k) j ∙ ap (λ x. has m j || x) (pow_has k j))) ∙ sym (bit_test (bit_or m (2 ^ k)) j))
 
   pub with_past : 64 ≤ k → r ≡ m
-  with_past l = same_bits 64 r m r< m< (λ j h. bit_test r j ∙ ap as_bit (members j h ∙ ap (λ x. has m j || x) (other j h) ∙ or_false (has m j)) ∙ sym (bit_test m j))
+  with_past l = same_bits 64 r m r< m< (λ j h. bit_test r j ∙ ap as_bit (members j h ∙ ap (λ x. has m j || x) (other j h) ∙ or-false (has m j)) ∙ sym (bit_test m j))
     where
       other : (j : ℕ) → j < 64 → eqb j k ≡ false
       other j h = ne_eqb j k (λ e. omega arith)
-
-      or_false : (x : Bool) → (x || false) ≡ x
-      or_false true = refl
-      or_false false = refl
 
 -- ---- a loop that asks each number: n goes in where the answer is yes
 module _ (ask : ℕ → Bool → Type 0) (n m : ℕ) (below : m < 2 ^ n) (told : (j : ℕ) → j < n → ask j (has m j)) where
@@ -193,16 +190,8 @@ module _ (ask : ℕ → Bool → Type 0) (n m : ℕ) (below : m < 2 ^ n) (told :
   )
     where
       go : (j : ℕ) → j < n + 1 → Dec (j ≡ n) → ask j (has r j)
-      go j l (yes e) = subst (ask j) (sym (members j (omega arith) ∙ ap (λ x. has m j || x) (eq-eqb j n e) ∙ or_true (has m j))) (subst (λ k. ask k true) (sym e) yes')
-        where
-          or_true : (x : Bool) → (x || true) ≡ true
-          or_true true = refl
-          or_true false = refl
-      go j l (no d) = subst (ask j) (sym (members j (omega arith) ∙ ap (λ x. has m j || x) (ne_eqb j n d) ∙ or_false (has m j))) (told j (omega arith))
-        where
-          or_false : (x : Bool) → (x || false) ≡ x
-          or_false true = refl
-          or_false false = refl
+      go j l (yes e) = subst (ask j) (sym (members j (omega arith) ∙ ap (λ x. has m j || x) (eq-eqb j n e) ∙ or-true (has m j))) (subst (λ k. ask k true) (sym e) yes')
+      go j l (no d) = subst (ask j) (sym (members j (omega arith) ∙ ap (λ x. has m j || x) (ne_eqb j n d) ∙ or-false (has m j))) (told j (omega arith))
 
   pub ask_out : ask n false → (m < 2 ^ (n + 1)) × ((j : ℕ) → j < n + 1 → ask j (has m j))
   ask_out no' = (omega (arith, below, ap (λ k. 2 ^ k) (add-one n), pow-suc 2 n), λ j l. go j l (ℕ_discrete j n))

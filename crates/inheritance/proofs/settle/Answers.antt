@@ -20,11 +20,11 @@ use Rattle.inheritance.proofs.settle.Goals as goal
 use Rattle.inheritance.proofs.settle.Goals.{then-differs, else-differs}
 
 -- the numbers below 64, each with the set of that place
-numbered : (s : Zip (Range ℕ) (IntoIter ℕ 64)) (sets : List ℕ) → s.a ≡ record { start = 0; end = 64 } → array_into_iter_items s.b ≡ sets
+numbered : (s z : Zip (Range ℕ) (IntoIter ℕ 64)) (sets : List ℕ) → s ≡ z → z.a ≡ record { start = 0; end = 64 } → array_into_iter_items z.b ≡ sets
     → YieldsList (zips nat_range_steps array_steps) (λ p. (p.0, p.1)) s (zip (range_with_len 0 64) sets)
-numbered s sets first second =
-    YieldsList-from_zip (YieldsList-from_range 0 64 64 first refl)
-    (subst (λ ys. YieldsList array_steps (λ x. x) s.b ys) second (YieldsList-from_shown array_steps (λ x. x) array_into_iter_items (λ s t e. e.0) (λ s x t e. e) s.b))
+numbered s z sets same first second =
+    YieldsList-from_zip (YieldsList-from_range 0 64 64 (ap (λ z. z.a) same ∙ first) refl)
+    (subst (λ ys. YieldsList array_steps (λ x. x) s.b ys) (ap (λ z. array_into_iter_items z.b) same ∙ second) (YieldsList-from_shown array_steps (λ x. x) array_into_iter_items (λ s t e. e.0) (λ s x t e. e) s.b))
 
 numbered_at : (sets : List ℕ) (n t m : ℕ) → length sets ≡ 64 → n < length (zip (range_with_len 0 64) sets) → (t, m) ≡ get_or (zip (range_with_len 0 64) sets) n (t, m) → (n < 64) × (t ≡ n) × (m ≡ get_or sets n 0)
 numbered_at sets n t m long low is =
@@ -43,10 +43,7 @@ loop-t-preserved g c =
     let sets = c.leading.result in
     let n = length c.loop-t.yielded in
     let long : length sets ≡ 64 = search rules in
-    let first : c.into_iter-t-iterator.result.a ≡ record { start = 0; end = 64 } = ap (λ z. z.a) c.into_iter-t-iterator.ensures.into_iter_gives ∙ c.zip-t-items.ensures.first in
-    let given : array_into_iter_items c.zip-t-items.result.b ≡ sets = c.zip-t-items.ensures.second.0 in
-    let second : array_into_iter_items c.into_iter-t-iterator.result.b ≡ sets = ap (λ z. array_into_iter_items z.b) c.into_iter-t-iterator.ensures.into_iter_gives ∙ given in
-    let source = numbered c.into_iter-t-iterator.result sets first second in
+    let source = numbered c.into_iter-t-iterator.result c.zip-t-items.result sets c.into_iter-t-iterator.ensures.into_iter_gives c.zip-t-items.ensures.first c.zip-t-items.ensures.second.0 in
     let told = YieldsList-turn source c.loop-t.yielded _ c.loop-t.yielded_by _ _ (c.in-Some.t, c.in-Some.leading) c.in-Some.is c.next.ensures.steps in
     let (low, number, set) = numbered_at sets n c.in-Some.t c.in-Some.leading long told.0 told.1 in
     let t = c.in-Some.t in
@@ -73,10 +70,7 @@ pub returns : goal.returns
 returns g c =
     let sets = c.leading.result in
     let long : length sets ≡ 64 = search rules in
-    let first : c.into_iter-t-iterator.result.a ≡ record { start = 0; end = 64 } = ap (λ z. z.a) c.into_iter-t-iterator.ensures.into_iter_gives ∙ c.zip-t-items.ensures.first in
-    let given : array_into_iter_items c.zip-t-items.result.b ≡ sets = c.zip-t-items.ensures.second.0 in
-    let second : array_into_iter_items c.into_iter-t-iterator.result.b ≡ sets = ap (λ z. array_into_iter_items z.b) c.into_iter-t-iterator.ensures.into_iter_gives ∙ given in
-    let told = YieldsList-end (numbered c.into_iter-t-iterator.result sets first second) c.loop-t.yielded _ c.loop-t.yielded_by _ _ c.in-None.is c.next.ensures.steps in
+    let told = YieldsList-end (numbered c.into_iter-t-iterator.result c.zip-t-items.result sets c.into_iter-t-iterator.ensures.into_iter_gives c.zip-t-items.ensures.first c.zip-t-items.ensures.second.0) c.loop-t.yielded _ c.loop-t.yielded_by _ _ c.in-None.is c.next.ensures.steps in
     let end : length c.loop-t.yielded ≡ 64 = omega (arith, told.1, length-zip (range_with_len 0 64) sets, length-range_with_len 0 64, long) in
     settled g.U.Urgency.urgent c.args.table.now c.args.standing c.args.rows.now c.loop-t.rows c.loop-t.changed
     (subst (λ n. Settling g.U.Urgency.urgent c.args.table.now c.args.standing c.args.rows.now n c.loop-t.rows c.loop-t.changed) end c.loop-t.invariant) c.loop-t.auto.rows
