@@ -70,9 +70,10 @@ fn put_level<U: Urgency>(table: &WaitTable, rows: &mut [Row<U>], t: u32, level: 
 pub fn settle<U: Urgency>(table: &WaitTable, standing: TaskSet, rows: &mut [Row<U>]) -> TaskSet
     ensures { Settled U.urgent table.now standing rows.old rows.new result }
 {
+    let sets = table.leading();
     let mut changed: TaskSet = 0;
-    for (t, leading) in (0..64u32).zip(table.leading()) {
-        let level = most(table, rows, leading);
+    for (t, leading) in (0..64u32).zip(&sets) {
+        let level = most(table, rows, *leading);
         if differs(rows, standing, t, level) {
             changed = with(changed, t);
         }

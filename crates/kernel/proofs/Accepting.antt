@@ -16,10 +16,10 @@ use Rattle.book.specs.Kernel.{levels_of}
 use Rattle.inheritance.specs.Rows.{both, held, Settled}
 use Rattle.kernel.specs.Inner.{Accepted}
 
-woken_is : (w x : Waits) (a b : ℕ) → a ≡ those (waiting w) → b ≡ doing x Ready → bit_and a b ≡ woken w x
+pub woken_is : (w x : Waits) (a b : ℕ) → a ≡ those (waiting w) → b ≡ doing x Ready → bit_and a b ≡ woken w x
 woken_is w x a b e d = ap (λ a. bit_and a b) e ∙ ap (bit_and (those (waiting w))) d ∙ those_and (waiting w) (λ i. does Ready (x.tasks i))
 
-changed_is : {U : Type 0} (urgent : U → U → Bool) (lev : ℕ → Option U) (w x : Waits) (b b' : Book U) (p q r : ℕ) → p ≡ those (λ i. is_some (w.tasks i)) → q ≡ those (λ i. is_some (x.tasks i))
+pub changed_is : {U : Type 0} (urgent : U → U → Bool) (lev : ℕ → Option U) (w x : Waits) (b b' : Book U) (p q r : ℕ) → p ≡ those (λ i. is_some (w.tasks i)) → q ≡ those (λ i. is_some (x.tasks i))
     → r ≡ those (λ i. has (bit_and p q) i && not (same urgent (lev i) (level urgent b i))) → b ≡ b' → b'.waits ≡ x → r ≡ changed urgent lev w b'
 changed_is urgent lev w x b b' p q r e d told stays left =
     told ∙ those_same (λ i. has (bit_and p q) i && not (same urgent (lev i) (level urgent b i))) (λ i. is_some (w.tasks i) && is_some (b'.waits.tasks i) && not (same urgent (lev i) (level urgent b' i))) at

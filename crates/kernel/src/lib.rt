@@ -151,7 +151,7 @@ impl<'a, U: Urgency> Kernel<'a, U> {
     pub fn level_of(&self, t: u32) -> Result<U, Refusal>
         ensures { result ≡ answered t (option_and ((waits_of self.now.table).tasks t) (level U.urgent (book_of (state_of self.now)) t)) }
     {
-        answered(t, self.table.task(t).and(level_in(self.rows, t)))
+        answered(t, self.table.task(t).and_then(|_| level_in(self.rows, t)))
     }
 
     /// The state of task t: ready, or where it waits.
@@ -173,7 +173,7 @@ impl<'a, U: Urgency> Kernel<'a, U> {
         ensures { result ≡ answered s (waiters_at (waits_of self.now.table) s) }
     {
         let waiters = |_| self.table.doing(Wait::AtSemaphore(s));
-        answered(s, self.table.semaphore(s).map(waiters))
+        self.holder_of(s).map(waiters)
     }
 
     /// How many tasks wait at semaphore s.
