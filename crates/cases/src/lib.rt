@@ -1,6 +1,8 @@
 //! The calls, the questions and the running task at their edges.
 #![tactic(auto)]
 
+ghost use Rattle.std.proofs.Common.{ap};
+
 #[cfg(test)]
 mod tests {
     use book::{Call, Refusal, Row};
@@ -480,6 +482,45 @@ mod tests {
         })
     }
 
+    // An order the other way round.
+    #[derive(Clone, Copy)]
+    struct Turned<U> {
+        value: U,
+    }
+
+    impl<U: Urgency> Urgency for Turned<U> {
+        ghost urgent = { λ a b. U.urgent b.value a.value };
+
+        ghost total = { λ a b. U.total b.value a.value };
+
+        ghost transitive = { λ a b c x y. U.transitive c.value b.value a.value y x };
+
+        ghost antisymmetric = { λ a b x y. ap (λ u. record { value = u }) (U.antisymmetric a.value b.value y x) };
+
+        fn at_least(&self, other: &Turned<U>) -> bool {
+            other.value.at_least(&self.value)
+        }
+    }
+
+    // A kernel under an order that is made from any other, as a part of a struct.
+    #[derive(Drop)]
+    struct Unit<'a, U: Urgency> {
+        kernel: Kernel<'a, Turned<U>>,
+    }
+
+    impl<'a, U: Urgency> Unit<'a, U> {
+        fn open(rows: &'a mut [Row<Turned<U>>]) -> Unit<'a, U> {
+            Unit {
+                kernel: Kernel::open(rows),
+            }
+        }
+
+        fn task(&mut self, t: u32, value: U) -> Option<u32> {
+            let _ = self.kernel.task(t, Turned { value });
+            self.kernel.running()
+        }
+    }
+
     // Rows that hold base 7 and level 9.
     fn rows<const N: usize>() -> Result<[Row<Grade>; N], Fail> {
         let base = grade(7)?;
@@ -706,6 +747,20 @@ mod tests {
             &rows,
             &[(0, 5, 5), (1, 20, 20), (2, 30, 20), (63, 4, 4)],
         );
+        Ok(())
+    }
+
+    #[test]
+    fn turned_order(rt: HostRuntime) -> Result<(), Fail> {
+        let least = Turned { value: grade(1)? };
+        let mut rows = [Row {
+            base: least,
+            level: least,
+        }; 64];
+        let mut unit = Unit::open(&mut rows);
+        assert_eq!(rt; unit.task(0, grade(10)?), Some(0));
+        assert_eq!(rt; unit.task(1, grade(30)?), Some(1));
+        assert_eq!(rt; unit.task(2, grade(20)?), Some(1));
         Ok(())
     }
 

@@ -1,4 +1,3 @@
 pub mod Answers
 pub mod Held
 pub mod Inner
-pub mod Right

@@ -9,11 +9,10 @@ ghost use Rattle.book.specs.declared.call.Call.TheVariants.{Task, Untask, Base, 
 ghost use Rattle.book.specs.declared.refusal.Refusal.TheVariants.{FewRows};
 ghost use Rattle.book.specs.Book.{level, first, running};
 ghost use Rattle.book.specs.Runs.{left_waiting};
-ghost use Rattle.book.specs.Kernel.{book_of, levels_of, opened, Right};
+ghost use Rattle.book.specs.Kernel.{book_of, levels_of, running_of, opened, Right};
 ghost use Rattle.inheritance.specs.Rows.{both};
 ghost use Rattle.steps.specs.Judged.{Judged};
 ghost use Rattle.kernel.specs.Answers.{answered, waiters_at};
-ghost use Rattle.kernel.specs.Right.{right_prop};
 ghost use Rattle.kernel.specs.Inner.{asked, Within, noted, Accepted};
 
 mod runs;
@@ -21,6 +20,7 @@ mod runs;
 use book::{Call, Refusal, Reply, Row};
 use inheritance::{base_in, level_in, settle};
 pub use runs::run;
+use std::marker::Model;
 use tasksets::{TaskSet, size};
 use urgency::Urgency;
 use waits::{Holder, Wait, WaitTable};
@@ -30,8 +30,19 @@ use waits::{Holder, Wait, WaitTable};
 pub struct Kernel<'a, U: Urgency> {
     rows: &'a mut [Row<U>],
     table: WaitTable,
-    /// The row of each present task holds its level.
-    pub ghost right: { Right U.urgent (both table rows.now) } by { right_prop U.code _ _ },
+}
+
+impl<'a, U: Urgency> Model for Kernel<'a, U> {
+    ghost use Rattle.book.specs.Kernel.{Right};
+    ghost use Rattle.inheritance.specs.Rows.{both};
+    ghost use Rattle.kernel.specs.Held.{Seen};
+
+    ghost Value = { Seen U };
+
+    ghost view = { λ k. record { rows = k.rows; table = k.table } };
+
+    // The row of each present task holds its level.
+    ghost invariant = { λ k. Right U.urgent (both k.table k.rows.now) };
 }
 
 impl<'a, U: Urgency> Kernel<'a, U> {
@@ -149,7 +160,8 @@ impl<'a, U: Urgency> Kernel<'a, U> {
 
     /// The level of task t: its urgency at present.
     pub fn level_of(&self, t: u32) -> Result<U, Refusal>
-        ensures { result ≡ answered t (option_and ((waits_of self.now.table).tasks t) (level U.urgent (book_of (state_of self.now)) t)) }
+        ensures held { result ≡ answered t (option_and ((waits_of self.now.table).tasks t) (levels_of (state_of self.now) t)) }
+        ensures book { result ≡ answered t (option_and ((waits_of self.now.table).tasks t) (level U.urgent (book_of (state_of self.now)) t)) }
     {
         answered(t, self.table.task(t).and_then(|_| level_in(self.rows, t)))
     }
@@ -185,7 +197,9 @@ impl<'a, U: Urgency> Kernel<'a, U> {
 
     /// The running task: the first of the ready tasks.
     pub fn running(&self) -> Option<u32>
-        ensures { result ≡ running U.urgent (book_of (state_of self.now)) }
+        ensures held { result ≡ running_of U.urgent (state_of self.now) }
+        ensures book { result ≡ running U.urgent (book_of (state_of self.now)) }
+        ensures right { Right U.urgent (state_of self.now) }
     {
         let ready = self.table.doing(Wait::Ready);
         inheritance::first(self.rows, ready)

@@ -4,7 +4,7 @@ use Rattle.urgency.proofs.Laws.{from_laws}
 use Rattle.book.specs.declared.call.LogEntry.{LogEntry}
 use Rattle.book.specs.Kernel.{Run}
 use Rattle.book.proofs.Lawful.{lawful}
-use Rattle.book.proofs.Agreeing.{running_same, run_begin, run_call}
+use Rattle.book.proofs.Agreeing.{run_begin, run_call}
 use Rattle.kernel.specs.Held.{state_of}
 use Rattle.kernel.proofs.runs.run.Goals as goal
 
@@ -23,7 +23,7 @@ loop-entry-preserved g c =
     let e : LogEntry g.row.U.Denot = record (get_or log i c.entry-item.result) { reply = c.make-entry.result; running = c.running-entry.result } in
     let more : take (i + 1) (set log i e) ≡ take i log ++ (e ∷ []) = ap (λ n. take n (set log i e)) (add-one i) ∙ take-suc-set log i e (omega arith) in
     record {
-      run = subst (λ es. Run urgent c.args.rows.now es (state_of c.make-entry.new.self)) (sym more) (run_call urgent c.loop-entry.invariant.run e c.make-entry.ensures.made (c.running-entry.ensures ∙ sym (running_same urgent (state_of c.make-entry.new.self) c.make-entry.new.self.right)));
+      run = subst (λ es. Run urgent c.args.rows.now es (state_of c.make-entry.new.self)) (sym more) (run_call urgent c.loop-entry.invariant.run e c.make-entry.ensures.made c.running-entry.ensures.held);
       calls = map-set_same (λ e. e.call) log i e c.entry-item.result refl ∙ c.loop-entry.invariant.calls;
       named = c.make-entry.ensures.named ∙ c.loop-entry.invariant.named;
     }
