@@ -1,6 +1,7 @@
 //! The calls, the questions and the running task at their edges.
 #![tactic(auto)]
 
+ghost use Rattle.std.specs.Prelude.{◌≡◌};
 ghost use Rattle.std.proofs.Common.{ap};
 
 #[cfg(test)]
@@ -747,6 +748,21 @@ mod tests {
             &rows,
             &[(0, 5, 5), (1, 20, 20), (2, 30, 20), (63, 4, 4)],
         );
+        Ok(())
+    }
+
+    // Whoever lends rows knows what they hold once the kernel has ended.
+    fn opened<U: Urgency>(rows: &mut [Row<U>])
+        ensures { rows.new ≡ rows.old }
+    {
+        let _kernel = Kernel::open(rows);
+    }
+
+    #[test]
+    fn rows_after_the_end(rt: HostRuntime) -> Result<(), Fail> {
+        let mut rows = rows::<64>()?;
+        opened(&mut rows);
+        each_holds(&rt, "row", &rows, &[]);
         Ok(())
     }
 

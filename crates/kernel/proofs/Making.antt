@@ -1,5 +1,5 @@
 -- One argument for every call: refused, it leaves all as it was; accepted, it does the book's step.
-use Rattle.std.proofs.Common.{◌≡◌, ℕ, ◌<◌, ◌≤◌, Bool, true, false, not, ◌&&◌, T, List, [], ◌∷◌, length, get_or, set, is_ok, is_some, Some, None, Ok, Err, Option, Result, sym, refl, ap, ◌∙◌, subst, true≢false, arith, length-set, slice_get}
+use Rattle.std.proofs.Common.{◌≡◌, ℕ, ◌<◌, ◌≤◌, Bool, true, false, not, ◌&&◌, T, List, [], ◌∷◌, length, get_or, set, is_ok, is_some, Some, None, Ok, Err, Option, sym, refl, ap, ◌∙◌, subst, true≢false, arith, length-set, slice_get}
 use mathlib.Core.Path.{fun_ext}
 use native.Mathlib.Decide.{ℕ_discrete}
 use Rattle.std.proofs.lemmas.Bool.{lt-ltb, le-ltb}
@@ -8,9 +8,7 @@ use Rattle.urgency.specs.Order.{same}
 use Rattle.tasksets.proofs.Sets.{those_same}
 use Rattle.waits.specs.declared.parts.Wait.{Wait}
 use Rattle.waits.specs.declared.parts.Wait.TheVariants.{Ready}
-use Rattle.waits.specs.declared.table.WaitTable.{WaitTable}
 use Rattle.waits.specs.Waits.{Waits, put, with_task}
-use Rattle.waits.specs.Table.{waits_of}
 use Rattle.waits.specs.Facts.{Present}
 use Rattle.waits.proofs.Keeps.{put_same, put_other}
 use Rattle.book.specs.declared.row.Row.{Row}
@@ -27,10 +25,11 @@ use Rattle.book.proofs.Clear.{Clear, clear, clear_parts, all_below, all_there, a
 use Rattle.book.proofs.Facts.{absent}
 use Rattle.book.proofs.Firsts.{first_has}
 use Rattle.book.proofs.Standing.{alters_base, standing, base_kept}
-use Rattle.steps.specs.Judged.{refusal, Judged}
+use Rattle.steps.specs.Judged.{refusal}
 use Rattle.std.proofs.lemmas.Option.{slice_get-get_or}
 use Rattle.inheritance.proofs.Rows.{row_set_same, row_set_other}
-use Rattle.kernel.specs.Held.{Seen, state_of, MakesCall}
+use Rattle.kernel.specs.declared.Kernel.{Kernel}
+use Rattle.kernel.specs.Held.{state_of, MakesCall}
 use Rattle.kernel.specs.Inner.{asked, Within, noted, Accepted}
 
 module _ {U : Type 0} (urgent : U → U → Bool) (k : State U) (c : Call U) where
@@ -281,20 +280,15 @@ module _ {U : Type 0} (urgent : U → U → Bool) (k : State U) where
         (subst (λ y. Accepted urgent (record { waits = k.waits; rows = noted k.rows c }) x y r k') still
         (subst (λ rows. Accepted urgent (record { waits = k.waits; rows = rows }) x waiting r k') written a)))
 
--- what the rule of a call says of a kernel it says of its parts, by whatever name
-pub judged_at : {U : Type 0} (urgent : U → U → Bool) {v k : Seen U} (c : Call U) (r : Result WaitTable Refusal) → v ≡ k → Judged (first urgent (levels_of (state_of k))) (waits_of k.table) (asked c) r
-    → Judged (first urgent (levels_of (state_of v))) (waits_of v.table) (asked c) r
-judged_at urgent c r e = subst (λ k. Judged (first urgent (levels_of (state_of k))) (waits_of k.table) (asked c) r) (sym e)
-
 -- where the levels before are right, the step that is made is the book's, and they are right after it
-pub makes_call : {U : Type 0} {urgent : U → U → Bool} {k k' : Seen U} {c : Call U} {r : Reply} → Right urgent (state_of k) → Made urgent (state_of k) c r (state_of k') → k'.rows.ghost_name ≡ k.rows.ghost_name → MakesCall urgent k c r k'
-makes_call {urgent = urgent} {k = k} {k' = k'} {c = c} {r = r} right m named = record {
+pub makes_call : {U : Type 0} {urgent : U → U → Bool} {k k' : Kernel U} {c : Call U} {r : Reply} → Made urgent (state_of k) c r (state_of k') → k'.rows.ghost_name ≡ k.rows.ghost_name → MakesCall urgent k c r k'
+makes_call {urgent = urgent} {k = k} {k' = k'} {c = c} {r = r} m named = record {
   made = m;
-  stepped = m.stepped ∙ step_same urgent (levels_of (state_of k)) (level urgent (book_of (state_of k))) (book_of (state_of k)) right (length k.rows.now) c;
+  stepped = λ right. m.stepped ∙ step_same urgent (levels_of (state_of k)) (level urgent (book_of (state_of k))) (book_of (state_of k)) right (length k.rows.now) c;
   right = go r m.right m.refused;
   named = named;
 }
   where
-    go : (r : Reply) → (T (is_ok r) → Right urgent (state_of k')) → ((j : Refusal) → r ≡ Err j → state_of k' ≡ state_of k) → Right urgent (state_of k')
-    go (Ok a) accepted refused = accepted tt
-    go (Err j) accepted refused = subst (Right urgent) (sym (refused j refl)) right
+    go : (r : Reply) → (T (is_ok r) → Right urgent (state_of k')) → ((j : Refusal) → r ≡ Err j → state_of k' ≡ state_of k) → Right urgent (state_of k) → Right urgent (state_of k')
+    go (Ok a) accepted refused right = accepted tt
+    go (Err j) accepted refused right = subst (Right urgent) (sym (refused j refl)) right

@@ -13,6 +13,7 @@ ghost use Rattle.book.specs.Kernel.{book_of, levels_of, running_of, opened, Righ
 ghost use Rattle.inheritance.specs.Rows.{both};
 ghost use Rattle.steps.specs.Judged.{Judged};
 ghost use Rattle.kernel.specs.Answers.{answered, waiters_at};
+ghost use Rattle.kernel.specs.Held.{state_of, MakesCall};
 ghost use Rattle.kernel.specs.Inner.{asked, Within, noted, Accepted};
 
 mod runs;
@@ -20,7 +21,6 @@ mod runs;
 use book::{Call, Refusal, Reply, Row};
 use inheritance::{base_in, level_in, settle};
 pub use runs::run;
-use std::marker::Model;
 use tasksets::{TaskSet, size};
 use urgency::Urgency;
 use waits::{Holder, Wait, WaitTable};
@@ -32,25 +32,11 @@ pub struct Kernel<'a, U: Urgency> {
     table: WaitTable,
 }
 
-impl<'a, U: Urgency> Model for Kernel<'a, U> {
-    ghost use Rattle.book.specs.Kernel.{Right};
-    ghost use Rattle.inheritance.specs.Rows.{both};
-    ghost use Rattle.kernel.specs.Held.{Seen};
-
-    ghost Value = { Seen U };
-
-    ghost view = { λ k. record { rows = k.rows; table = k.table } };
-
-    // The row of each present task holds its level.
-    ghost invariant = { λ k. Right U.urgent (both k.table k.rows.now) };
-}
-
 impl<'a, U: Urgency> Kernel<'a, U> {
-    ghost use Rattle.kernel.specs.Held.{state_of, MakesCall};
-
     /// Opens a kernel over any rows, and writes none of them. With fewer than 64 it refuses every call.
     pub fn open(rows: &'a mut [Row<U>]) -> Kernel<'a, U>
         ensures opened { state_of result ≡ opened rows.old }
+        ensures right { Right U.urgent (state_of result) }
         ensures named { result.rows.ghost_name ≡ rows.entry.ghost_name }
     {
         let table = WaitTable::empty();
@@ -161,7 +147,7 @@ impl<'a, U: Urgency> Kernel<'a, U> {
     /// The level of task t: its urgency at present.
     pub fn level_of(&self, t: u32) -> Result<U, Refusal>
         ensures held { result ≡ answered t (option_and ((waits_of self.now.table).tasks t) (levels_of (state_of self.now) t)) }
-        ensures book { result ≡ answered t (option_and ((waits_of self.now.table).tasks t) (level U.urgent (book_of (state_of self.now)) t)) }
+        ensures book { Right U.urgent (state_of self.now) → result ≡ answered t (option_and ((waits_of self.now.table).tasks t) (level U.urgent (book_of (state_of self.now)) t)) }
     {
         answered(t, self.table.task(t).and_then(|_| level_in(self.rows, t)))
     }
@@ -198,8 +184,7 @@ impl<'a, U: Urgency> Kernel<'a, U> {
     /// The running task: the first of the ready tasks.
     pub fn running(&self) -> Option<u32>
         ensures held { result ≡ running_of U.urgent (state_of self.now) }
-        ensures book { result ≡ running U.urgent (book_of (state_of self.now)) }
-        ensures right { Right U.urgent (state_of self.now) }
+        ensures book { Right U.urgent (state_of self.now) → result ≡ running U.urgent (book_of (state_of self.now)) }
     {
         let ready = self.table.doing(Wait::Ready);
         inheritance::first(self.rows, ready)
