@@ -6,7 +6,7 @@ ghost use Rattle.std.specs.Option.{option_and, option_map};
 ghost use Rattle.tasksets.specs.Sets.{members_below};
 ghost use Rattle.waits.specs.Table.{waits_of};
 ghost use Rattle.book.specs.declared.call.Call.TheVariants.{Task, Untask, Base, Sem, Unsem, Lock, Try, Unlock, Release};
-ghost use Rattle.book.specs.declared.refusal.Refusal.TheVariants.{FewRows};
+ghost use Rattle.book.specs.declared.refusal.Refusal.TheVariants.{FewRows, Over63};
 ghost use Rattle.book.specs.Book.{level, first, running};
 ghost use Rattle.book.specs.Runs.{left_waiting};
 ghost use Rattle.book.specs.Kernel.{book_of, levels_of, running_of, opened, Right};
@@ -141,7 +141,8 @@ impl<'a, U: Urgency> Kernel<'a, U> {
     pub fn base_of(&self, t: u32) -> Result<U, Refusal>
         ensures { result ≡ answered t ((book_of (state_of self.now)).base t) }
     {
-        answered(t, base_in(&self.table, self.rows, t))
+        check_number(t)?;
+        base_in(&self.table, self.rows, t).ok_or(Refusal::NotDeclared)
     }
 
     /// The level of task t: its urgency at present.
@@ -149,21 +150,25 @@ impl<'a, U: Urgency> Kernel<'a, U> {
         ensures held { result ≡ answered t (option_and ((waits_of self.now.table).tasks t) (levels_of (state_of self.now) t)) }
         ensures book { Right U.urgent (state_of self.now) → result ≡ answered t (option_and ((waits_of self.now.table).tasks t) (level U.urgent (book_of (state_of self.now)) t)) }
     {
-        answered(t, self.table.task(t).and_then(|_| level_in(self.rows, t)))
+        check_number(t)?;
+        let level = self.table.task(t).and_then(|_| level_in(self.rows, t));
+        level.ok_or(Refusal::NotDeclared)
     }
 
     /// The state of task t: ready, or where it waits.
     pub fn state_of(&self, t: u32) -> Result<Wait, Refusal>
         ensures { result ≡ answered t ((waits_of self.now.table).tasks t) }
     {
-        answered(t, self.table.task(t))
+        check_number(t)?;
+        self.table.task(t).ok_or(Refusal::NotDeclared)
     }
 
     /// The holder of semaphore s: a task, or nobody.
     pub fn holder_of(&self, s: u32) -> Result<Holder, Refusal>
         ensures { result ≡ answered s ((waits_of self.now.table).semaphores s) }
     {
-        answered(s, self.table.semaphore(s))
+        check_number(s)?;
+        self.table.semaphore(s).ok_or(Refusal::NotDeclared)
     }
 
     /// The tasks that wait at semaphore s.
@@ -230,14 +235,14 @@ fn accept<U: Urgency>(
     (waiting, woken, changed)
 }
 
-// What a question about number n answers, where `found` is what there is of that number.
-fn answered<T: Copy>(n: u32, found: Option<T>) -> Result<T, Refusal>
-    ensures { result ≡ answered n found }
+// Refuses a number that no task, semaphore or condition has.
+fn check_number(n: u32) -> Result<(), Refusal>
+    ensures { elim result [ Ok _ ↦ n ≤ 63 | Err k ↦ (k ≡ Over63) × (63 < n) ] }
 {
     if n > 63 {
         return Err(Refusal::Over63);
     }
-    found.ok_or(Refusal::NotDeclared)
+    Ok(())
 }
 
 /// Whether there are rows enough for a kernel: told before opening.
